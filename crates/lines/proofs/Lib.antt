@@ -1,0 +1,2 @@
+-- Laws about the definitions of specs/, for the proofs of this crate and of those above it.
+pub mod Bools

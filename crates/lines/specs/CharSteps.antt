@@ -1,0 +1,33 @@
+-- The length of the character at the start of bytes. Only private functions cite this file.
+use Prim.Native.Nat.{ℕ, zero, suc}
+use mathlib.Core.Bool.{Bool, true, false, _&&_, cond}
+use mathlib.Core.List.{List, [], _∷_}
+use lib.ListN.{length, getD, drop}
+use lib.Dec.{ltb}
+use Rattle.lines.specs.Bytes.{Bytes}
+use Rattle.lines.specs.Utf8.{Range, range, within, Row, row, rows}
+
+-- the byte at index i is there and in the range
+unfoldable pub inAt : Range → ℕ → Bytes → Bool
+inAt r i t = ltb i (length t) && within r (getD t i 0)
+
+-- the bytes start with one byte in each of the ranges
+unfoldable pub begins : List Range → Bytes → Bool
+begins [] bs = true
+begins (r ∷ rs) [] = false
+begins (r ∷ rs) (b ∷ bs) = within r b && begins rs bs
+
+-- the length of a character whose first byte asks these ranges to follow; 0 where they do not
+unfoldable pub lengthBy : List Range → Bytes → ℕ
+unfolding begins
+lengthBy rs t = cond (begins rs (drop 1 t)) (suc (length rs)) 0
+
+-- the length of the character at the start, by the first row that has the first byte; 0 where none stands there
+unfoldable pub charIn : List Row → Bytes → ℕ
+unfolding inAt lengthBy
+charIn [] t = 0
+charIn (row r rs ∷ qs) t = cond (inAt r 0 t) (lengthBy rs t) (charIn qs t)
+
+unfoldable pub charLength : Bytes → ℕ
+unfolding charIn rows
+charLength t = charIn rows t

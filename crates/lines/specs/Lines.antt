@@ -1,0 +1,87 @@
+-- Physical lines, comment lines, joining, logical lines.
+use Prim.Native.Nat.{ℕ, zero, suc}
+use mathlib.Core.Bool.{Bool, true, false, not, _||_, cond}
+use mathlib.Core.Option.{Option, none, some}
+use mathlib.Core.List.{List, [], _∷_, _++_}
+use lib.ListN.{length}
+use lib.Dec.{eqb}
+use Rattle.lines.specs.Bytes.{Bytes, isLF, all}
+
+-- A line: the number of the (first) physical line that it is made of, its bytes, and the offset just
+-- after the LF that ends it, none where the file's end does.
+pub record Line : Type 0 where
+  pub number : ℕ
+  pub bytes : Bytes
+  pub shut : Option ℕ
+
+-- ---- physical lines
+
+-- a byte in front of the first line, which has the number n; alone it is a line that the file's end ends
+unfoldable pub onto : ℕ → ℕ → List Line → List Line
+onto n b [] = record { number = n; bytes = b ∷ []; shut = none } ∷ []
+onto n b (l ∷ ls) = record { number = n; bytes = b ∷ l .bytes; shut = l .shut } ∷ ls
+
+-- The physical lines of bytes that start at offset a, in line n. Each ends at LF or at the file's
+-- end; nothing after a last LF is no line.
+unfoldable pub physical : ℕ → ℕ → Bytes → List Line
+unfolding onto
+physical n a [] = []
+physical n a (b ∷ bs) =
+    cond (isLF b)
+    (record { number = n; bytes = []; shut = some (suc a) } ∷ physical (suc n) (suc a) bs)
+    (onto n b (physical n (suc a) bs))
+
+-- ---- comment lines
+
+-- its first byte is # or ;
+unfoldable pub comment : Bytes → Bool
+comment [] = false
+comment (b ∷ bs) = eqb b 0x23 || eqb b 0x3B
+
+-- ---- continued lines
+
+abbrev pub backslash : ℕ → Bool
+backslash b = eqb b 0x5C
+
+-- the length of the run of backslashes that closes a line
+unfoldable pub closingRun : Bytes → ℕ
+unfolding all
+closingRun [] = 0
+closingRun (b ∷ bs) = cond (all backslash (b ∷ bs)) (length (b ∷ bs)) (closingRun bs)
+
+unfoldable pub odd : ℕ → Bool
+odd zero = false
+odd (suc n) = not (odd n)
+
+-- a line is continued when that run is odd
+unfoldable pub continued : Bytes → Bool
+unfolding odd closingRun
+continued l = odd (closingRun l)
+
+-- the last byte becomes one space
+unfoldable pub spaced : Bytes → Bytes
+spaced [] = []
+spaced (b ∷ []) = 0x20 ∷ []
+spaced (b ∷ c ∷ cs) = b ∷ spaced (c ∷ cs)
+
+-- ---- joining
+
+-- A continued line and the logical lines of what comes after it: the first of these follows it at
+-- once. Where there is none, the file has ended and the line is complete.
+unfoldable pub follow : Line → List Line → List Line
+unfolding spaced
+follow l [] = record { number = l .number; bytes = spaced (l .bytes); shut = none } ∷ []
+follow l (k ∷ ks) = record { number = l .number; bytes = spaced (l .bytes) ++ k .bytes; shut = k .shut } ∷ ks
+
+-- The logical lines of physical lines. A comment line is dropped whole, wherever it stands.
+unfoldable pub joined : List Line → List Line
+unfolding comment continued follow
+joined [] = []
+joined (l ∷ ls) =
+    cond (comment (l .bytes)) (joined ls)
+    (cond (continued (l .bytes)) (follow l (joined ls)) (l ∷ joined ls))
+
+-- the logical lines of a file
+unfoldable pub logical : Bytes → List Line
+unfolding physical joined
+logical f = joined (physical 1 0 f)

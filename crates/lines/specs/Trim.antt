@@ -1,0 +1,19 @@
+-- Trimming: blanks at both ends go.
+use mathlib.Core.Bool.{Bool, true, false, cond}
+use mathlib.Core.List.{List, [], _∷_}
+use Rattle.lines.specs.Bytes.{Bytes, blank, all}
+
+-- blanks at the start
+unfoldable pub trimStart : Bytes → Bytes
+trimStart [] = []
+trimStart (b ∷ bs) = cond (blank b) (trimStart bs) (b ∷ bs)
+
+-- blanks at the end
+unfoldable pub trimEnd : Bytes → Bytes
+unfolding all
+trimEnd [] = []
+trimEnd (b ∷ bs) = cond (all blank (b ∷ bs)) [] (b ∷ trimEnd bs)
+
+unfoldable pub trim : Bytes → Bytes
+unfolding trimStart trimEnd
+trim l = trimEnd (trimStart l)

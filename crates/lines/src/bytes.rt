@@ -1,0 +1,1 @@
+// Tests on bytes, and total helpers on slices.
