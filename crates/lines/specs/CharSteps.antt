@@ -1,11 +1,11 @@
 -- The length of the character at the start of bytes. Only private functions cite this file.
-use Prim.Native.Nat.{ℕ, zero, suc}
+use Prim.Native.Nat.{ℕ, suc}
 use mathlib.Core.Bool.{Bool, true, false, _&&_, cond}
 use mathlib.Core.List.{List, [], _∷_}
 use lib.ListN.{length, getD, drop}
 use lib.Dec.{ltb}
 use Rattle.lines.specs.Bytes.{Bytes}
-use Rattle.lines.specs.Utf8.{Range, range, within, Row, row, rows}
+use Rattle.lines.specs.Utf8.{Range, within, Row, row, rows}
 
 -- the byte at index i is there and in the range
 unfoldable pub inAt : Range → ℕ → Bytes → Bool

@@ -9,3 +9,5 @@ pub use error::Error;
 pub use file::Check;
 pub use joiner::Cursor;
 pub use joiner::Next;
+pub use bytes::copy_into;
+pub use joiner::next_line;
