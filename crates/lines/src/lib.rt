@@ -5,7 +5,11 @@ mod file;
 mod joiner;
 mod utf8;
 
+pub use bytes::is_control;
 pub use error::Error;
+pub use file::check_file;
 pub use file::Check;
 pub use joiner::Cursor;
 pub use joiner::Next;
+pub use utf8::char_length;
+pub use utf8::well_formed_length;
