@@ -108,14 +108,25 @@ utf8-ascii (b ∷ l) h =
 
 -- ---- the character at the start, by the rows
 
-module _ (r : Range) (rs : List Range) (qs : List Row) (t : Bytes) where
-  pub row-taken : inAt r 0 t ≡ true → charIn (row r rs ∷ qs) t ≡ lengthBy rs t
-  unfolding charIn
-  row-taken e = rw e
+-- the first of these rows has the first byte
+unfoldable pub hasFirst : List Row → Bytes → Bool
+hasFirst [] t = false
+hasFirst (row r rs ∷ qs) t = inAt r 0 t
 
-  pub row-left : inAt r 0 t ≡ false → charIn (row r rs ∷ qs) t ≡ charIn qs t
-  unfolding charIn
-  row-left e = rw e
+-- what the first of these rows asks to follow
+unfoldable pub follows : List Row → List Range
+follows [] = []
+follows (row r rs ∷ qs) = rs
+
+pub row-taken : (qs : List Row) (t : Bytes) → hasFirst qs t ≡ true → charIn qs t ≡ lengthBy (follows qs) t
+unfolding charIn hasFirst follows
+row-taken [] t e = impossible e
+row-taken (row r rs ∷ qs) t e = rw e
+
+pub row-left : (qs : List Row) (t : Bytes) → hasFirst qs t ≡ false → charIn qs t ≡ charIn (drop 1 qs) t
+unfolding charIn hasFirst
+row-left [] t e = refl
+row-left (row r rs ∷ qs) t e = rw e
 
 -- the ranges asked one index after the other
 unfoldable pub inEach : ℕ → List Range → Bytes → Bool
