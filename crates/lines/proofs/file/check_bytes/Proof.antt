@@ -2,11 +2,12 @@
 use mathlib.Core.Path.{_≡_, sym, ap, _∙_}
 use Prim.Native.Nat.{ℕ, _+_, _-_, _≤_}
 use native.Mathlib.Omega.{arith}
-use lib.ListN.{length}
+use lib.ListN.{length, drop}
 use denote.Ref.{now}
 use borrow.Author.Needs.{needs}
 use borrow.Author.Tests.{eq-eqb, ne-eqb}
-use Rattle.lines.proofs.Utf8Laws.{more-fits}
+use Rattle.lines.specs.CharSteps.{charLength}
+use Rattle.lines.proofs.Slices.{part-from}
 use Rattle.lines.proofs.FileLaws.{Passed, start, line-fits, go, broken, ended}
 use Rattle.lines.proofs.file.check_bytes.Statement.{statement}
 use Rattle.lines.proofs.file.check_bytes.Tie as tie
@@ -32,11 +33,17 @@ part-char-length-end c = search needs
 char-length-requires : tie.Need-char-length-requires Inv-loop μ-loop
 char-length-requires c κs = search needs
 
+-- what the call tells of the bytes from i on
+seen : (c : tie.After-char-length Inv-loop μ-loop)
+    → c .char-length .result
+      ≡ charLength (drop (c .before .before .before .loop .i) (now (c .before .before .before .before .before .args .file)))
+seen c = c .char-length .ensures ∙ ap charLength (part-from (c .before .before .before .loop .i) _)
+
 returns : tie.Need-returns Inv-loop μ-loop
 returns c =
     let h = c .before .before .before .before in
     broken (now (h .before .before .args .file)) (h .loop .i) (h .loop .line) (h .loop .found) (h .loop .inv)
-    (c .before .before .before .loop-test .taken) (sym (c .if1 .taken) ∙ c .before .char-length .ensures)
+    (c .before .before .before .loop-test .taken) (sym (c .if1 .taken) ∙ seen (c .before))
 
 shared-slice-read-b : tie.Need-shared-slice-read-b Inv-loop μ-loop
 shared-slice-read-b c = omega arith
@@ -49,14 +56,27 @@ line-after-requires c κs =
     let h = c .before .before .before .before .before .before in
     omega (arith, line-fits (now (h .before .before .args .file)) (h .loop .i) (h .loop .line) (h .loop .found) (h .loop .inv), h .before .before .good)
 
+-- the invariant after a turn
+again : (c : tie.After-line-after Inv-loop μ-loop) →
+    let h = c .before .before .before .before .before .before .before in
+    Passed (now (h .before .before .args .file)) (h .loop .i + c .before .before .before .before .char-length .result)
+    (c .line-after .result) (c .before .control-after .result)
+again c =
+    let h = c .before .before .before .before .before .before .before in
+    rw (c .line-after .ensures, c .before .control-after .ensures)
+    (go (now (h .before .before .args .file)) (h .loop .i) (h .loop .line) (h .loop .found)
+    (c .before .before .before .before .char-length .result) (h .loop .inv)
+    (c .before .before .before .before .before .before .loop-test .taken)
+    (seen (c .before .before .before .before)) (c .before .before .before .if1 .left))
+
 add-i : tie.Need-add-i Inv-loop μ-loop
-add-i c = ?
+add-i c = omega (arith, again c .inside)
 
 loop-less : tie.Need-loop-less Inv-loop μ-loop
-loop-less c = ?
+loop-less c = omega (arith, again c .inside, c .before .before .before .if1 .left)
 
 loop-again : tie.Need-loop-again Inv-loop μ-loop
-loop-again c = ?
+loop-again c = again c
 
 returns-2 : tie.Need-returns-2 Inv-loop μ-loop
 returns-2 c =

@@ -9,6 +9,7 @@ use denote.Ref.{now}
 use borrow.Author.Needs.{needs}
 use Rattle.lines.specs.Utf8.{well, utf8}
 use Rattle.lines.specs.CharSteps.{charLength}
+use Rattle.lines.proofs.Slices.{part-from}
 use Rattle.lines.proofs.Utf8Laws.{char-nil, more-fits, more-legal, start-ends}
 use Rattle.lines.proofs.utf8.well_formed_length.Statement.{statement}
 use Rattle.lines.proofs.utf8.well_formed_length.Tie as tie
@@ -35,11 +36,17 @@ part-char-length-end c = search needs
 char-length-requires : tie.Need-char-length-requires Inv-loop μ-loop
 char-length-requires c κs = search needs
 
+-- what the call tells of the bytes from i on
+found : (c : tie.After-char-length Inv-loop μ-loop)
+    → c .char-length .result
+      ≡ charLength (drop (c .before .before .before .loop .i) (now (c .before .before .before .before .before .args .text)))
+found c = c .char-length .ensures ∙ ap charLength (part-from (c .before .before .before .loop .i) _)
+
 returns : tie.Need-returns Inv-loop μ-loop
 returns c =
     let h = c .before .before .before .before in
     sym (start-ends (now (h .before .before .args .text)) (h .loop .i) (h .loop .inv .0) (h .loop .inv .1)
-    (sym (c .before .char-length .ensures) ∙ c .if1 .taken))
+    (sym (found (c .before)) ∙ c .if1 .taken))
 
 -- the character at i lies inside
 inside : (c : tie.Else1 Inv-loop μ-loop)
@@ -47,7 +54,7 @@ inside : (c : tie.Else1 Inv-loop μ-loop)
       ≤ length (now (c .before .before .before .before .before .before .args .text))
 inside c =
     let h = c .before .before .before .before in
-    rw (c .before .char-length .ensures)
+    rw (found (c .before))
     (more-fits (now (h .before .before .args .text)) (h .loop .i) (h .loop .inv .0) (h .loop .inv .1))
 
 add-i : tie.Need-add-i Inv-loop μ-loop
@@ -59,7 +66,7 @@ loop-less c = omega (arith, inside c, c .if1 .left)
 loop-again : tie.Need-loop-again Inv-loop μ-loop
 loop-again c =
     let h = c .before .before .before .before in
-    (inside c, rw (c .before .char-length .ensures)
+    (inside c, rw (found (c .before))
     (more-legal (now (h .before .before .args .text)) (h .loop .i) (h .loop .inv .0) (h .loop .inv .1)))
 
 returns-2 : tie.Need-returns-2 Inv-loop μ-loop
