@@ -3,19 +3,19 @@
 use mathlib.Core.Path.{_≡_, refl, sym, ap, _∙_}
 use Prim.Native.Nat.{ℕ, zero, suc, _+_, _≤_, _<_, zero-le}
 use native.Mathlib.Omega.{arith}
-use mathlib.Core.Bool.{Bool, true, false, not, _&&_, _||_, cond}
-use mathlib.Core.List.{List, [], _∷_, _++_}
-use lib.ListN.{length, take, drop, getD, length-drop, length-append, take-append-drop}
+use mathlib.Core.Bool.{Bool, true, false, not, cond}
+use mathlib.Core.List.{[], _∷_, _++_}
+use lib.ListN.{length, take, drop, getD, length-drop, take-append-drop}
 use lib.Seq.{drop-cons, take-add, take-all, length-take-le}
-use lib.Dec.{leb, ltb, eqb, leb·zero, eqb·suc-zero}
-use borrow.Author.Tests.{leb-true, lt-leb, lt-ltb, le-ltb, ne-eqb, eq-eqb}
+use lib.Dec.{ltb, eqb, leb·zero, eqb·suc-zero}
+use borrow.Author.Tests.{leb-true, lt-leb, lt-ltb, le-ltb, ne-eqb}
 use Rattle.lines.specs.Bytes.{Bytes, isLF, control, all, lineFeeds}
-use Rattle.lines.specs.Utf8.{utf8, well, longestStart}
+use Rattle.lines.specs.Utf8.{utf8, well}
 use Rattle.lines.specs.CharSteps.{charLength, lineAfter, controlAfter}
-use Rattle.lines.specs.Answers.{Outcome, accepted, refused}
+use Rattle.lines.specs.Answers.{accepted, refused}
 use Rattle.lines.specs.Files.{endsOpen, size, lineAt, plain, firstControl, judged}
-use Rattle.lines.proofs.Bools.{by-cases, and-left, and-right, both, all-append, all-imp, not-true, impossible}
-use Rattle.lines.proofs.Utf8Laws.{highByte, Character, character, utf8-append, not-utf8, well-start, start-ends}
+use Rattle.lines.proofs.Bools.{by-cases, and-left, and-right, all-append, all-imp, not-true, impossible}
+use Rattle.lines.proofs.Utf8Laws.{highByte, Character, character, utf8-append, not-utf8, start-ends}
 
 -- ---- size
 
@@ -121,6 +121,7 @@ control-more a b t h = go (all plain a) refl (control b) refl
   where
     plain-t : all plain t ≡ true
     plain-t = all-imp highByte plain high-plain t h
+
     go : (p : Bool) → all plain a ≡ p → (q : Bool) → control b ≡ q
         → controlLine (a ++ b ∷ t) ≡ controlAfter (controlLine a) (suc (lineFeeds a)) b
     go false e q y = rw (all-append plain a (b ∷ t), e, first-stays a (b ∷ t) e, eqb·suc-zero)
@@ -150,17 +151,21 @@ pub go : (f : Bytes) (i line found n : ℕ) → Passed f i line found → i < le
     → Passed f (i + n) (lineAfter line (getD f i 0)) (controlAfter found line (getD f i 0))
 go f i line found zero p h e ne = absurd (ne refl)
 go f i line found (suc k) p h e ne = record {
-    inside = omega (arith, char .fits, length-drop (suc i) f);
-    legal = rw more (utf8-append (take i f) (b ∷ t) (p .legal) ∙ char .legal);
-    lines = unfold lineAt in rw (more, feeds-more (take i f) b t (char .rest), p .lines);
-    first = rw (more, control-more (take i f) b t (char .rest), ← p .first, p .lines) (unfold lineAt in refl) }
+  inside = omega (arith, char .fits, length-drop (suc i) f);
+  legal = rw more (utf8-append (take i f) (b ∷ t) (p .legal) ∙ char .legal);
+  lines = unfold lineAt in rw (more, feeds-more (take i f) b t (char .rest), p .lines);
+  first = rw (more, control-more (take i f) b t (char .rest), ← p .first, p .lines) (unfold lineAt in refl);
+}
   where
     b : ℕ
     b = getD f i 0
+
     t : Bytes
     t = take k (drop (suc i) f)
+
     char : Character b (drop (suc i) f) k
     char = character b (drop (suc i) f) k (ap charLength (sym (drop-cons f i 0 h)) ∙ sym e)
+
     more : take (i + suc k) f ≡ take i f ++ b ∷ t
     more = take-add i (suc k) f ∙ ap (λ (l : Bytes). take i f ++ take (suc k) l) (drop-cons f i 0 h)
 
@@ -170,8 +175,8 @@ unfolding judged
 broken f i line found p h e =
     let z : charLength (getD f i 0 ∷ drop (suc i) f) ≡ 0 = ap charLength (sym (drop-cons f i 0 h)) ∙ sym e in
     let u : utf8 f ≡ false =
-          ap utf8 (sym (take-append-drop i f) ∙ ap (λ (l : Bytes). take i f ++ l) (drop-cons f i 0 h))
-          ∙ not-utf8 (take i f) (getD f i 0) (drop (suc i) f) (p .legal) z in
+    ap utf8 (sym (take-append-drop i f) ∙ ap (λ (l : Bytes). take i f ++ l) (drop-cons f i 0 h))
+    ∙ not-utf8 (take i f) (getD f i 0) (drop (suc i) f) (p .legal) z in
     rw (u, start-ends f i (p .inside) (p .legal) (sym e), p .lines)
 
 -- the file has ended: control bytes decide

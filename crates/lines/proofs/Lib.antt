@@ -3,3 +3,4 @@ pub mod Bools
 pub mod Slices
 pub mod Utf8Laws
 pub mod FileLaws
+pub mod Encoded

@@ -2,18 +2,18 @@
 -- `charLength` says of them: the length of the character at the start, or that none stands there.
 -- The laws go over the bytes with the ranges that are still to come; a row is used by what it asks to follow.
 use mathlib.Core.Path.{_≡_, refl, sym, ap, _∙_}
-use Prim.Native.Nat.{ℕ, zero, suc, _+_, _≤_, _<_, zero-le, suc-le-suc}
+use Prim.Native.Nat.{ℕ, zero, suc, _+_, _≤_, zero-le, suc-le-suc}
 use native.Mathlib.Omega.{arith}
 use native.Mathlib.Nat.{add-zero, add-suc}
-use mathlib.Core.Bool.{Bool, true, false, not, _&&_, cond}
+use mathlib.Core.Bool.{Bool, true, false, _&&_, cond}
 use mathlib.Core.Option.{Option, none, some}
 use mathlib.Core.List.{List, [], _∷_, _++_, append-nil}
-use lib.ListN.{length, take, drop, getD, length-append, take-append-drop, length-drop, drop-of-length-le}
+use lib.ListN.{length, take, drop, length-append, take-append-drop, length-drop}
 use lib.Seq.{take-length, take-append-add, take-append-seam, take-add, length-take-le}
-use lib.Dec.{leb, ltb, leb·zero, leb·suc-suc}
+use lib.Dec.{leb, leb·zero, leb·suc-suc}
 use borrow.Author.Tests.{leb-true, le-leb, lt-leb, le-ltb, lt-ltb}
 use Rattle.lines.specs.Bytes.{Bytes, all, between}
-use Rattle.lines.specs.Utf8.{Range, range, within, tail, Row, row, rows, headed, heads, after, well, utf8, startWithin, longestStart}
+use Rattle.lines.specs.Utf8.{Range, range, within, Row, row, rows, headed, heads, after, well, utf8, startWithin, longestStart}
 use Rattle.lines.specs.CharSteps.{inAt, begins, lengthBy, charIn, charLength}
 use Rattle.lines.proofs.Bools.{by-cases, and-left, and-right, and-assoc, both, impossible}
 
@@ -259,7 +259,7 @@ start-at : (n : ℕ) (a : Bytes) (b : ℕ) (bs : Bytes) → utf8 a ≡ true → 
 start-at zero a b bs u c = rw add-zero (start-yes (a ++ b ∷ bs) (length a) (rw take-append-seam u))
 start-at (suc n) a b bs u c =
     let e : utf8 (take (length a + suc n) (a ++ b ∷ bs)) ≡ false =
-          ap utf8 (take-append-add a (b ∷ bs) (suc n)) ∙ utf8-append a (take (suc n) (b ∷ bs)) u ∙ no-start n b bs c in
+    ap utf8 (take-append-add a (b ∷ bs) (suc n)) ∙ utf8-append a (take (suc n) (b ∷ bs)) u ∙ no-start n b bs c in
     rw add-suc (start-no (a ++ b ∷ bs) (length a + n) (rw add-suc at e) ∙ start-at n a b bs u c)
 
 pub well-all : (f : Bytes) → utf8 f ≡ true → longestStart f ≡ length f

@@ -2,7 +2,6 @@
 use crate::bytes::is_control;
 use crate::error::Error;
 use crate::utf8::char_length;
-
 ghost use mathlib.Core.Path.{_≡_};
 ghost use Prim.Native.Nat.{_<_, _^_};
 ghost use lib.Dec.{ltb};

@@ -7,8 +7,8 @@ mod utf8;
 
 pub use bytes::is_control;
 pub use error::Error;
-pub use file::check_file;
 pub use file::Check;
+pub use file::check_file;
 pub use joiner::Cursor;
 pub use joiner::Next;
 pub use utf8::char_length;

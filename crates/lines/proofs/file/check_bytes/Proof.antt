@@ -1,6 +1,6 @@
 -- `check_bytes` meets its contract. The loop's invariant is `Passed`; the measure is what is left of the length.
 use mathlib.Core.Path.{_≡_, sym, ap, _∙_}
-use Prim.Native.Nat.{ℕ, _+_, _-_, _≤_}
+use Prim.Native.Nat.{_+_, _-_}
 use native.Mathlib.Omega.{arith}
 use lib.ListN.{length, drop}
 use denote.Ref.{now}
@@ -36,7 +36,7 @@ char-length-requires c κs = search needs
 -- what the call tells of the bytes from i on
 seen : (c : tie.After-char-length Inv-loop μ-loop)
     → c .char-length .result
-      ≡ charLength (drop (c .before .before .before .loop .i) (now (c .before .before .before .before .before .args .file)))
+    ≡ charLength (drop (c .before .before .before .loop .i) (now (c .before .before .before .before .before .args .file)))
 seen c = c .char-length .ensures ∙ ap charLength (part-from (c .before .before .before .loop .i) _)
 
 returns : tie.Need-returns Inv-loop μ-loop

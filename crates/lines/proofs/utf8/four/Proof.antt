@@ -21,34 +21,42 @@ returns : tie.Need-returns
 unfolding inEach
 returns c =
     let a = c .before .before .before .before .before .before .before .args in
-    rw (by-index (range (a .low) (a .high) ∷ tail ∷ tail ∷ []) (now (a .text)),
-        sym (c .before .before .before .before .before .in-range .ensures) ∙ c .before .before .before .before .if1 .taken,
-        sym (c .before .before .before .in-range2 .ensures) ∙ c .before .before .if2 .taken,
-        sym (c .before .in-range3 .ensures) ∙ c .if3 .taken)
+    rw (
+      by-index (range (a .low) (a .high) ∷ tail ∷ tail ∷ []) (now (a .text)),
+      sym (c .before .before .before .before .before .in-range .ensures) ∙ c .before .before .before .before .if1 .taken,
+      sym (c .before .before .before .in-range2 .ensures) ∙ c .before .before .if2 .taken,
+      sym (c .before .in-range3 .ensures) ∙ c .if3 .taken,
+    )
 
 returns-2 : tie.Need-returns-2
 unfolding inEach
 returns-2 c =
     let a = c .before .before .before .before .before .before .before .args in
-    rw (by-index (range (a .low) (a .high) ∷ tail ∷ tail ∷ []) (now (a .text)),
-        sym (c .before .before .before .before .before .in-range .ensures) ∙ c .before .before .before .before .if1 .taken,
-        sym (c .before .before .before .in-range2 .ensures) ∙ c .before .before .if2 .taken,
-        sym (c .before .in-range3 .ensures) ∙ c .if3 .left)
+    rw (
+      by-index (range (a .low) (a .high) ∷ tail ∷ tail ∷ []) (now (a .text)),
+      sym (c .before .before .before .before .before .in-range .ensures) ∙ c .before .before .before .before .if1 .taken,
+      sym (c .before .before .before .in-range2 .ensures) ∙ c .before .before .if2 .taken,
+      sym (c .before .in-range3 .ensures) ∙ c .if3 .left,
+    )
 
 returns-3 : tie.Need-returns-3
 unfolding inEach
 returns-3 c =
     let a = c .before .before .before .before .before .args in
-    rw (by-index (range (a .low) (a .high) ∷ tail ∷ tail ∷ []) (now (a .text)),
-        sym (c .before .before .before .in-range .ensures) ∙ c .before .before .if1 .taken,
-        sym (c .before .in-range2 .ensures) ∙ c .if2 .left)
+    rw (
+      by-index (range (a .low) (a .high) ∷ tail ∷ tail ∷ []) (now (a .text)),
+      sym (c .before .before .before .in-range .ensures) ∙ c .before .before .if1 .taken,
+      sym (c .before .in-range2 .ensures) ∙ c .if2 .left,
+    )
 
 returns-4 : tie.Need-returns-4
 unfolding inEach
 returns-4 c =
     let a = c .before .before .before .args in
-    rw (by-index (range (a .low) (a .high) ∷ tail ∷ tail ∷ []) (now (a .text)),
-        sym (c .before .in-range .ensures) ∙ c .if1 .left)
+    rw (
+      by-index (range (a .low) (a .high) ∷ tail ∷ tail ∷ []) (now (a .text)),
+      sym (c .before .in-range .ensures) ∙ c .if1 .left,
+    )
 
 pub four-spec : {M : Type 1} → statement M
 four-spec =

@@ -14,14 +14,18 @@ in-range-requires c κs = search needs
 returns : tie.Need-returns
 unfolding inEach
 returns c =
-    rw (by-index (tail ∷ []) (now (c .before .before .before .args .text)),
-        sym (c .before .in-range .ensures) ∙ c .if1 .taken)
+    rw (
+      by-index (tail ∷ []) (now (c .before .before .before .args .text)),
+      sym (c .before .in-range .ensures) ∙ c .if1 .taken,
+    )
 
 returns-2 : tie.Need-returns-2
 unfolding inEach
 returns-2 c =
-    rw (by-index (tail ∷ []) (now (c .before .before .before .args .text)),
-        sym (c .before .in-range .ensures) ∙ c .if1 .left)
+    rw (
+      by-index (tail ∷ []) (now (c .before .before .before .args .text)),
+      sym (c .before .in-range .ensures) ∙ c .if1 .left,
+    )
 
 pub two-spec : {M : Type 1} → statement M
 two-spec = tie.close (tie.spec in-range-requires returns returns-2)

@@ -1,7 +1,7 @@
 -- `well_formed_length` meets its contract. The loop's invariant: the bytes passed are there and well-formed.
 -- The measure is what is left of the length.
 use mathlib.Core.Path.{_≡_, refl, sym, ap, _∙_}
-use Prim.Native.Nat.{ℕ, _+_, _-_, _≤_}
+use Prim.Native.Nat.{_+_, _-_, _≤_}
 use native.Mathlib.Omega.{arith}
 use mathlib.Core.Bool.{true}
 use lib.ListN.{length, take, drop, drop-of-length-le}
@@ -39,7 +39,7 @@ char-length-requires c κs = search needs
 -- what the call tells of the bytes from i on
 found : (c : tie.After-char-length Inv-loop μ-loop)
     → c .char-length .result
-      ≡ charLength (drop (c .before .before .before .loop .i) (now (c .before .before .before .before .before .args .text)))
+    ≡ charLength (drop (c .before .before .before .loop .i) (now (c .before .before .before .before .before .args .text)))
 found c = c .char-length .ensures ∙ ap charLength (part-from (c .before .before .before .loop .i) _)
 
 returns : tie.Need-returns Inv-loop μ-loop
@@ -51,7 +51,7 @@ returns c =
 -- the character at i lies inside
 inside : (c : tie.Else1 Inv-loop μ-loop)
     → c .before .before .before .before .loop .i + c .before .char-length .result
-      ≤ length (now (c .before .before .before .before .before .before .args .text))
+    ≤ length (now (c .before .before .before .before .before .before .args .text))
 inside c =
     let h = c .before .before .before .before in
     rw (found (c .before))
@@ -65,9 +65,11 @@ loop-less c = omega (arith, inside c, c .if1 .left)
 
 loop-again : tie.Need-loop-again Inv-loop μ-loop
 loop-again c =
-    let h = c .before .before .before .before in
-    (inside c, rw (found (c .before))
-    (more-legal (now (h .before .before .args .text)) (h .loop .i) (h .loop .inv .0) (h .loop .inv .1)))
+    let h = c .before .before .before .before in (
+      inside c,
+      rw (found (c .before))
+          (more-legal (now (h .before .before .args .text)) (h .loop .i) (h .loop .inv .0) (h .loop .inv .1)),
+    )
 
 returns-2 : tie.Need-returns-2 Inv-loop μ-loop
 returns-2 c =
