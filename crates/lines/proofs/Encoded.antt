@@ -21,7 +21,8 @@ below : ℕ → List Row → Bool
 below n [] = true
 below n (row (range low high) rs ∷ qs) = ltb high n && below n qs
 
-headed-past : (ps : List Row) (b low : ℕ) (qs : List Row) → below low ps ≡ true → low ≤ b → headed b (ps ++ qs) ≡ headed b qs
+headed-past : (ps : List Row) (b low : ℕ) (qs : List Row) → below low ps ≡ true → low ≤ b
+    → headed b (ps ++ qs) ≡ headed b qs
 unfolding headed below
 headed-past [] b low qs h l = refl
 headed-past (row (range lo hi) rs ∷ ps) b low qs h l =
@@ -53,7 +54,8 @@ next-byte : (low high b : ℕ) (rs : List Range) (bs : Bytes) → low ≤ b → 
 unfolding well
 next-byte low high b rs bs l h w = both (between low high b) (well rs bs) (in-between low high b l h) w
 
-tail-byte : (m : ℕ) (rs : List Range) (bs : Bytes) → well rs bs ≡ true → well (tail ∷ rs) ((0x80 + m % 0x40) ∷ bs) ≡ true
+tail-byte : (m : ℕ) (rs : List Range) (bs : Bytes) → well rs bs ≡ true
+    → well (tail ∷ rs) ((0x80 + m % 0x40) ∷ bs) ≡ true
 tail-byte m rs bs w = next-byte 0x80 0xBF (0x80 + m % 0x40) rs bs (omega arith) (omega arith) w
 
 -- ---- code points
@@ -73,11 +75,13 @@ three-bytes n l h s =
     (λ c. in-row 2 0xE0 0xE0 _ (0xE0 + n / 0x1000) _ refl refl (omega arith) (omega arith)
     (next-byte 0xA0 0xBF (0x80 + n / 0x40 % 0x40) _ _ (omega arith) (omega arith) last))
     (λ c. split n 0xCFFF
-    (λ d. in-row 3 0xE1 0xEC _ (0xE0 + n / 0x1000) _ refl refl (omega arith) (omega arith) (tail-byte (n / 0x40) _ _ last))
+    (λ d. in-row 3 0xE1 0xEC _ (0xE0 + n / 0x1000) _ refl refl (omega arith) (omega arith)
+    (tail-byte (n / 0x40) _ _ last))
     (λ d. split n 0xDFFF
     (λ e. in-row 4 0xED 0xED _ (0xE0 + n / 0x1000) _ refl refl (omega arith) (omega arith)
     (next-byte 0x80 0x9F (0x80 + n / 0x40 % 0x40) _ _ (omega arith) (omega (arith, no-surrogate n s e)) last))
-    (λ e. in-row 5 0xEE 0xEF _ (0xE0 + n / 0x1000) _ refl refl (omega arith) (omega arith) (tail-byte (n / 0x40) _ _ last))))
+    (λ e. in-row 5 0xEE 0xEF _ (0xE0 + n / 0x1000) _ refl refl (omega arith) (omega arith)
+    (tail-byte (n / 0x40) _ _ last))))
   where
     last : well (tail ∷ []) ((0x80 + n % 0x40) ∷ []) ≡ true
     last = tail-byte n [] [] well-nil
@@ -90,7 +94,8 @@ four-bytes n l h =
     (λ c. in-row 6 0xF0 0xF0 _ (0xF0 + n / 0x40000) _ refl refl (omega arith) (omega arith)
     (next-byte 0x90 0xBF (0x80 + n / 0x1000 % 0x40) _ _ (omega arith) (omega arith) last))
     (λ c. split n 0xFFFFF
-    (λ d. in-row 7 0xF1 0xF3 _ (0xF0 + n / 0x40000) _ refl refl (omega arith) (omega arith) (tail-byte (n / 0x1000) _ _ last))
+    (λ d. in-row 7 0xF1 0xF3 _ (0xF0 + n / 0x40000) _ refl refl (omega arith) (omega arith)
+    (tail-byte (n / 0x1000) _ _ last))
     (λ d. in-row 8 0xF4 0xF4 _ (0xF0 + n / 0x40000) _ refl refl (omega arith) (omega arith)
     (next-byte 0x80 0x8F (0x80 + n / 0x1000 % 0x40) _ _ (omega arith) (omega arith) last)))
   where

@@ -112,7 +112,10 @@ first-here : (a : Bytes) (b : ℕ) (t : Bytes) → all plain a ≡ true → cont
 unfolding all firstControl lineFeeds
 first-here [] b t h k = rw k
 first-here (x ∷ a) b t h k =
-    rw (not-true (control x) (and-left (plain x) (all plain a) h), first-here a b t (and-right (plain x) (all plain a) h) k)
+    rw (
+      not-true (control x) (and-left (plain x) (all plain a) h),
+      first-here a b t (and-right (plain x) (all plain a) h) k,
+    )
 
 control-more : (a : Bytes) (b : ℕ) (t : Bytes) → all highByte t ≡ true
     → controlLine (a ++ b ∷ t) ≡ controlAfter (controlLine a) (suc (lineFeeds a)) b
@@ -130,7 +133,8 @@ control-more a b t h = go (all plain a) refl (control b) refl
 
 -- ---- the pass
 
--- i bytes of the file are passed: whole characters, in whose lines `line` is next and `found` the one of the first control byte
+-- i bytes of the file are passed, and they are whole characters: `line` is the line of what follows,
+-- `found` the line of the first control byte among them
 pub record Passed (f : Bytes) (i line found : ℕ) : Type 0 where
   pub inside : i ≤ length f
   pub legal : utf8 (take i f) ≡ true
@@ -141,16 +145,17 @@ pub start : (f : Bytes) → Passed f 0 1 0
 unfolding utf8 well lineAt lineFeeds controlLine all
 start f = record { inside = zero-le; legal = refl; lines = refl; first = refl }
 
--- a line has one LF less before it than its number says
-pub line-fits : (f : Bytes) (i line found : ℕ) → Passed f i line found → line ≤ i + 1
+-- each line but the first begins after an LF
+pub line-fits : {f : Bytes} {i line found : ℕ} → Passed f i line found → line ≤ i + 1
 unfolding lineAt
-line-fits f i line found p = omega (arith, p .lines, feeds-le (take i f), length-take-le i f (p .inside))
+line-fits {f} {i} p = omega (arith, p .lines, feeds-le (take i f), length-take-le i f (p .inside))
 
--- a character more
-pub go : (f : Bytes) (i line found n : ℕ) → Passed f i line found → i < length f → n ≡ charLength (drop i f) → (n ≡ 0 → ⊥)
+-- a character of n bytes more
+pub go : {f : Bytes} {i line found : ℕ} (n : ℕ) → Passed f i line found → i < length f
+    → n ≡ charLength (drop i f) → (n ≡ 0 → ⊥)
     → Passed f (i + n) (lineAfter line (getD f i 0)) (controlAfter found line (getD f i 0))
-go f i line found zero p h e ne = absurd (ne refl)
-go f i line found (suc k) p h e ne = record {
+go zero p h e ne = absurd (ne refl)
+go {f} {i} (suc k) p h e ne = record {
   inside = omega (arith, char .fits, length-drop (suc i) f);
   legal = rw more (utf8-append (take i f) (b ∷ t) (p .legal) ∙ char .legal);
   lines = unfold lineAt in rw (more, feeds-more (take i f) b t (char .rest), p .lines);
@@ -170,20 +175,20 @@ go f i line found (suc k) p h e ne = record {
     more = take-add i (suc k) f ∙ ap (λ (l : Bytes). take i f ++ take (suc k) l) (drop-cons f i 0 h)
 
 -- no character stands there: refused with 3
-pub broken : (f : Bytes) (i line found : ℕ) → Passed f i line found → i < length f → 0 ≡ charLength (drop i f) → refused 3 line ≡ judged f
+pub broken : {f : Bytes} {i line found : ℕ} → Passed f i line found → i < length f → charLength (drop i f) ≡ 0
+    → judged f ≡ refused 3 line
 unfolding judged
-broken f i line found p h e =
-    let z : charLength (getD f i 0 ∷ drop (suc i) f) ≡ 0 = ap charLength (sym (drop-cons f i 0 h)) ∙ sym e in
+broken {f} {i} p h e =
     let u : utf8 f ≡ false =
     ap utf8 (sym (take-append-drop i f) ∙ ap (λ (l : Bytes). take i f ++ l) (drop-cons f i 0 h))
-    ∙ not-utf8 (take i f) (getD f i 0) (drop (suc i) f) (p .legal) z in
-    rw (u, start-ends f i (p .inside) (p .legal) (sym e), p .lines)
+    ∙ not-utf8 (take i f) (getD f i 0) (drop (suc i) f) (p .legal) (ap charLength (sym (drop-cons f i 0 h)) ∙ e) in
+    rw (u, start-ends f i (p .inside) (p .legal) e, p .lines)
 
 -- the file has ended: control bytes decide
-pub ended : (f : Bytes) (i line found : ℕ) → Passed f i line found → length f ≤ i
+pub ended : {f : Bytes} {i line found : ℕ} → Passed f i line found → length f ≤ i
     → judged f ≡ cond (eqb found 0) (accepted tt) (refused 4 found)
 unfolding judged controlLine lineAt
-ended f i line found p h =
+ended {f} {i} {found = found} p h =
     let u : utf8 f ≡ true = ap utf8 (sym (take-all i f h)) ∙ p .legal in
     let c : found ≡ controlLine f = p .first ∙ ap controlLine (take-all i f h) in
     by-cases (all plain f)

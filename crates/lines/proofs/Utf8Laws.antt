@@ -4,12 +4,13 @@
 use mathlib.Core.Path.{_≡_, refl, sym, ap, _∙_}
 use Prim.Native.Nat.{ℕ, zero, suc, _+_, _≤_, zero-le, suc-le-suc}
 use native.Mathlib.Omega.{arith}
+use native.Mathlib.Numerals.{add-one}
 use native.Mathlib.Nat.{add-zero, add-suc}
 use mathlib.Core.Bool.{Bool, true, false, _&&_, cond}
 use mathlib.Core.Option.{Option, none, some}
 use mathlib.Core.List.{List, [], _∷_, _++_, append-nil}
 use lib.ListN.{length, take, drop, length-append, take-append-drop, length-drop}
-use lib.Seq.{take-length, take-append-add, take-append-seam, take-add, length-take-le}
+use lib.Seq.{drop-drop, take-length, take-append-add, take-append-seam, take-add, length-take-le}
 use lib.Dec.{leb, leb·zero, leb·suc-suc}
 use borrow.Author.Tests.{leb-true, le-leb, lt-leb, le-ltb, lt-ltb}
 use Rattle.lines.specs.Bytes.{Bytes, all, between}
@@ -118,15 +119,33 @@ unfoldable pub follows : List Row → List Range
 follows [] = []
 follows (row r rs ∷ qs) = rs
 
-pub row-taken : (qs : List Row) (t : Bytes) → hasFirst qs t ≡ true → charIn qs t ≡ lengthBy (follows qs) t
+row-left : (qs : List Row) (t : Bytes) → hasFirst qs t ≡ false → charIn qs t ≡ charIn (drop 1 qs) t
+unfolding charIn hasFirst
+row-left [] t e = refl
+row-left (row r rs ∷ qs) t e = rw e
+
+row-taken : (qs : List Row) (t : Bytes) → hasFirst qs t ≡ true → charIn qs t ≡ lengthBy (follows qs) t
 unfolding charIn hasFirst follows
 row-taken [] t e = impossible e
 row-taken (row r rs ∷ qs) t e = rw e
 
-pub row-left : (qs : List Row) (t : Bytes) → hasFirst qs t ≡ false → charIn qs t ≡ charIn (drop 1 qs) t
-unfolding charIn hasFirst
-row-left [] t e = refl
-row-left (row r rs ∷ qs) t e = rw e
+-- the first k rows do not have the first byte: the rows from k on decide
+abbrev pub PastRows : ℕ → Bytes → Type 0
+PastRows k t = charLength t ≡ charIn (drop k rows) t
+
+pub past-none : (t : Bytes) → PastRows 0 t
+unfolding charLength
+past-none t = refl
+
+-- the row at k has the first byte or not, as a test says
+module _ (k : ℕ) (t : Bytes) (past : PastRows k t) {test : Bool} (asked : test ≡ hasFirst (drop k rows) t) where
+  pub past-more : test ≡ false → PastRows (suc k) t
+  past-more e =
+      past ∙ row-left (drop k rows) t (sym asked ∙ e)
+      ∙ ap (λ (qs : List Row). charIn qs t) (drop-drop 1 k rows ∙ ap (λ (n : ℕ). drop n rows) (add-one k))
+
+  pub row-decides : {n : ℕ} → test ≡ true → n ≡ lengthBy (follows (drop k rows)) t → n ≡ charLength t
+  row-decides e f = f ∙ sym (past ∙ row-taken (drop k rows) t (sym asked ∙ e))
 
 -- the ranges asked one index after the other
 unfoldable pub inEach : ℕ → List Range → Bytes → Bool
@@ -183,7 +202,7 @@ not-begun (suc n) (b ∷ bs) (r ∷ rs) h =
     by-cases (within r b) (λ e. rw e (not-begun n bs rs (rw e at h))) (λ e. rw e)
 
 -- then no start but the empty one is well-formed
-no-start : (n : ℕ) (b : ℕ) (bs : Bytes) → charLength (b ∷ bs) ≡ 0 → utf8 (take (suc n) (b ∷ bs)) ≡ false
+pub no-start : (n : ℕ) (b : ℕ) (bs : Bytes) → charLength (b ∷ bs) ≡ 0 → utf8 (take (suc n) (b ∷ bs)) ≡ false
 unfolding utf8 well lengthAfter after
 no-start n b bs h = go (heads b) (sym (char-headed b bs) ∙ h)
   where
@@ -217,7 +236,8 @@ begun-well (r ∷ rs) (b ∷ bs) h =
     (and-left (within r b) (begins rs bs) h)
     (begun-well rs bs (and-right (within r b) (begins rs bs) h))
 
-begun-high : (rs : List Range) (bs : Bytes) → high rs ≡ true → begins rs bs ≡ true → all highByte (take (length rs) bs) ≡ true
+begun-high : (rs : List Range) (bs : Bytes) → high rs ≡ true → begins rs bs ≡ true
+    → all highByte (take (length rs) bs) ≡ true
 unfolding begins high all
 begun-high [] bs hr h = refl
 begun-high (r ∷ rs) [] hr h = impossible h
@@ -303,7 +323,9 @@ module _ (f : Bytes) (i : ℕ) (inside : i ≤ length f) (legal : utf8 (take i f
   more-fits = omega (arith, first-fits (drop i f), length-drop i f)
 
   pub more-legal : utf8 (take (i + charLength (drop i f)) f) ≡ true
-  more-legal = rw take-add (utf8-append (take i f) (take (charLength (drop i f)) (drop i f)) legal ∙ first-legal (drop i f))
+  more-legal =
+      rw take-add
+      (utf8-append (take i f) (take (charLength (drop i f)) (drop i f)) legal ∙ first-legal (drop i f))
 
   pub start-ends : charLength (drop i f) ≡ 0 → longestStart f ≡ i
   start-ends e =

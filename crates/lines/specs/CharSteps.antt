@@ -1,4 +1,4 @@
--- The length of the character at the start of bytes. Only private functions cite this file.
+-- The length of the character at the start of bytes, which `char_length` gives; all else here only private functions cite.
 use Prim.Native.Nat.{ℕ, zero, suc, _+_}
 use mathlib.Core.Bool.{Bool, true, false, _&&_, cond}
 use mathlib.Core.List.{List, [], _∷_}

@@ -41,9 +41,8 @@ seen c = c .char-length .ensures ∙ ap charLength (part-from (c .before .before
 
 returns : tie.Need-returns Inv-loop μ-loop
 returns c =
-    let h = c .before .before .before .before in
-    broken (now (h .before .before .args .file)) (h .loop .i) (h .loop .line) (h .loop .found) (h .loop .inv)
-    (c .before .before .before .loop-test .taken) (sym (c .if1 .taken) ∙ seen (c .before))
+    sym (broken (c .before .before .before .before .loop .inv) (c .before .before .before .loop-test .taken)
+    (sym (seen (c .before)) ∙ c .if1 .taken))
 
 shared-slice-read-b : tie.Need-shared-slice-read-b Inv-loop μ-loop
 shared-slice-read-b c = omega arith
@@ -54,7 +53,7 @@ control-after-requires c κs = search needs
 line-after-requires : tie.Need-line-after-requires Inv-loop μ-loop
 line-after-requires c κs =
     let h = c .before .before .before .before .before .before in
-    omega (arith, line-fits (now (h .before .before .args .file)) (h .loop .i) (h .loop .line) (h .loop .found) (h .loop .inv), h .before .before .good)
+    omega (arith, line-fits (h .loop .inv), h .before .before .good)
 
 -- the invariant after a turn
 again : (c : tie.After-line-after Inv-loop μ-loop) →
@@ -62,12 +61,10 @@ again : (c : tie.After-line-after Inv-loop μ-loop) →
     Passed (now (h .before .before .args .file)) (h .loop .i + c .before .before .before .before .char-length .result)
     (c .line-after .result) (c .before .control-after .result)
 again c =
-    let h = c .before .before .before .before .before .before .before in
+    let e = c .before .before .before .before in
     rw (c .line-after .ensures, c .before .control-after .ensures)
-    (go (now (h .before .before .args .file)) (h .loop .i) (h .loop .line) (h .loop .found)
-    (c .before .before .before .before .char-length .result) (h .loop .inv)
-    (c .before .before .before .before .before .before .loop-test .taken)
-    (seen (c .before .before .before .before)) (c .before .before .before .if1 .left))
+    (go (e .char-length .result) (e .before .before .before .loop .inv) (e .before .before .loop-test .taken)
+    (seen e) (c .before .before .before .if1 .left))
 
 add-i : tie.Need-add-i Inv-loop μ-loop
 add-i c = omega (arith, again c .inside)
@@ -79,16 +76,10 @@ loop-again : tie.Need-loop-again Inv-loop μ-loop
 loop-again c = again c
 
 returns-2 : tie.Need-returns-2 Inv-loop μ-loop
-returns-2 c =
-    let h = c .before .before in
-    sym (ended (now (h .before .before .args .file)) (h .loop .i) (h .loop .line) (h .loop .found) (h .loop .inv)
-    (c .before .loop-test .left) ∙ rw (eq-eqb _ _ (c .if2 .taken)))
+returns-2 c = sym (ended (c .before .before .loop .inv) (c .before .loop-test .left) ∙ rw (eq-eqb _ _ (c .if2 .taken)))
 
 returns-3 : tie.Need-returns-3 Inv-loop μ-loop
-returns-3 c =
-    let h = c .before .before in
-    sym (ended (now (h .before .before .args .file)) (h .loop .i) (h .loop .line) (h .loop .found) (h .loop .inv)
-    (c .before .loop-test .left) ∙ rw (ne-eqb _ _ (c .if2 .left)))
+returns-3 c = sym (ended (c .before .before .loop .inv) (c .before .loop-test .left) ∙ rw (ne-eqb _ _ (c .if2 .left)))
 
 pub check-bytes-spec : {M : Type 1} → statement M
 check-bytes-spec =
