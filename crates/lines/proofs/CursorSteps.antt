@@ -5,7 +5,7 @@ use native.Mathlib.Omega.{arith}
 use mathlib.Core.Option.{none, some}
 use mathlib.Core.List.{[], _∷_, _++_}
 use lib.ListN.{length, take, drop, length-drop, drop-of-length-le, take-append-drop}
-use lib.Seq.{take-add, take-all, drop-drop, length-take-le}
+use lib.Seq.{take-add, drop-drop, length-take-le}
 use lib.Dec.{ltb}
 use borrow.Author.Tests.{ltb-true, ltb-false}
 use Rattle.lines.specs.Bytes.{Bytes, lineFeeds}
@@ -15,7 +15,8 @@ use Rattle.lines.specs.LineSteps.{lineLength, At, Onward, PhysicalAt}
 use Rattle.lines.specs.declared.joiner.Cursor.{Cursor}
 use Rattle.lines.specs.declared.joiner.Physical.{Physical}
 use Rattle.lines.proofs.Bools.{by-cases}
-use Rattle.lines.proofs.Physicals.{lineFeeds-append, lineFeeds-length, lineFeeds-none, lineLength-le, line-noLF, line-then, line-alone, physical-shut, physical-open, comment-line}
+use Rattle.lines.proofs.LineFeeds.{lineFeeds-append, lineFeeds-length}
+use Rattle.lines.proofs.Physicals.{lineFeeds-none, lineLength-le, line-noLF, line-then, line-alone, physical-shut, physical-open, comment-line}
 
 pub stretch-length : (a e : ℕ) (f : Bytes) → e ≤ length f → length (stretch a e f) ≡ e - a
 stretch-length a e f h = length-take-le (e - a) (drop a f) (simp length-drop (omega arith))
@@ -26,9 +27,6 @@ stretch-append a b e f h k =
     let d : a + (b - a) ≡ b = omega arith in
     ap (λ (n : ℕ). take n (drop a f)) s ∙ take-add (b - a) (e - b) (drop a f)
     ∙ ap (λ (r : Bytes). stretch a b f ++ take (e - b) r) (drop-drop (b - a) a f ∙ ap (λ (n : ℕ). drop n f) d)
-
-pub stretch-all : (a : ℕ) (f : Bytes) → stretch a (length f) f ≡ drop a f
-stretch-all a f = take-all (length f - a) (drop a f) (simp length-drop (omega arith))
 
 stretch-none : (a : ℕ) (f : Bytes) → stretch a a f ≡ []
 stretch-none a f = let e : a - a ≡ 0 = omega arith in rw e

@@ -1,8 +1,16 @@
 -- Laws about the definitions of specs/, for the proofs of this crate and of those above it.
 pub mod Bools
+pub mod Slices
+pub mod LineFeeds
+-- UTF-8 and the check of a file
+pub mod Utf8Laws
+pub mod Encoded
+pub mod FileLaws
+-- physical and logical lines
 pub mod Runs
 pub mod Physicals
 pub mod Joining
+-- the joiner
 pub mod CursorSteps
 pub mod Pieces
 pub mod Walk

@@ -78,18 +78,6 @@ lineFeeds-none [] h = refl
 lineFeeds-none (b ∷ bs) h =
     rw (not-true (isLF b) (and-left (not (isLF b)) (noLF bs) h)) (lineFeeds-none bs (and-right (not (isLF b)) (noLF bs) h))
 
-pub lineFeeds-append : (a b : Bytes) → lineFeeds (a ++ b) ≡ lineFeeds a + lineFeeds b
-unfolding lineFeeds
-lineFeeds-append [] b = omega arith
-lineFeeds-append (x ∷ a) b =
-    by-cases (isLF x) (λ e. rw e (omega (arith, lineFeeds-append a b))) (λ e. rw e (lineFeeds-append a b))
-
-pub lineFeeds-length : (l : Bytes) → lineFeeds l ≤ length l
-unfolding lineFeeds
-lineFeeds-length [] = omega arith
-lineFeeds-length (b ∷ bs) =
-    by-cases (isLF b) (λ e. rw e (omega (arith, lineFeeds-length bs))) (λ e. rw e (omega (arith, lineFeeds-length bs)))
-
 -- ---- the first line by its length
 
 pub lineLength-le : (bs : Bytes) → lineLength bs ≤ length bs

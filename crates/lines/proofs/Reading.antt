@@ -22,7 +22,7 @@ use Rattle.lines.specs.declared.joiner.Physical.{Physical}
 use Rattle.lines.specs.declared.joiner.Piece.{Piece}
 use Rattle.lines.specs.declared.joiner.Measured.{Measured}
 use Rattle.lines.proofs.Bools.{by-cases}
-use Rattle.lines.proofs.Physicals.{lineFeeds-append}
+use Rattle.lines.proofs.LineFeeds.{lineFeeds-append}
 use Rattle.lines.proofs.CursorSteps.{onward-here, onward-more, onward-number, stretch-append, some-line}
 use Rattle.lines.proofs.Walk.{Walk, walk-start, walk-more, measured-line, measured-over, lines-none, skip-more, comment-over}
 

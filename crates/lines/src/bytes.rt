@@ -4,7 +4,18 @@ ghost use mathlib.Core.Bool.{cond};
 ghost use Prim.Native.Nat.{_+_, _≤_};
 ghost use lib.ListN.{length};
 ghost use lib.Dec.{leb};
+ghost use Rattle.lines.specs.Bytes.{control};
 ghost use Rattle.lines.specs.Buffers.{put};
+
+// A control byte of a file: 00 to 1F but tab and LF, and 7F.
+pub fn is_control(b: u8) -> bool
+    ensures { λ r. ⌜ r ≡ control b ⌝ }
+{
+    if b <= 0x1F {
+        return b != b'\t' && b != b'\n';
+    }
+    b == 0x7F
+}
 
 // ---- copies
 

@@ -8,7 +8,8 @@ use borrow.Author.Tests.{not-true, not-false}
 use Rattle.lines.specs.Lines.{comment}
 use Rattle.lines.specs.Cursors.{linesAt}
 use Rattle.lines.specs.LineSteps.{Onward}
-use Rattle.lines.proofs.CursorSteps.{onward-here, onward-more, onward-number, stretch-all}
+use Rattle.lines.proofs.CursorSteps.{onward-here, onward-more, onward-number}
+use Rattle.lines.proofs.Slices.{part-from}
 use Rattle.lines.proofs.Walk.{skip-more, comment-over}
 use Rattle.lines.proofs.joiner.skip_comments.Statement.{statement}
 use Rattle.lines.proofs.joiner.skip_comments.Tie as tie
@@ -43,7 +44,7 @@ returns c =
     record {
       onward = l .inv .0;
       lines = l .inv .2;
-      stands = ap comment (sym (stretch-all (l .c .offset) f)) ∙ sym (c .before .is-comment .ensures) ∙ not-true _ (c .if2 .taken);
+      stands = ap comment (sym (part-from (l .c .offset) f)) ∙ sym (c .before .is-comment .ensures) ∙ not-true _ (c .if2 .taken);
     }
 
 physical-line-requires : tie.Need-physical-line-requires Inv-loop μ-loop
@@ -59,7 +60,7 @@ loop-again c =
     let f = now (c .before .before .before .before .before .before .before .before .before .args .file) in
     let l = c .before .before .before .before .before .before .before .loop in
     let p = c .before .physical-line in
-    let t = skip-more f (l .c) (p .result) (p .ensures) (ap comment (sym (stretch-all (l .c .offset) f)) ∙ sym (c .before .before .before .is-comment .ensures) ∙ not-false _ (c .before .before .if2 .left)) in
+    let t = skip-more f (l .c) (p .result) (p .ensures) (ap comment (sym (part-from (l .c .offset) f)) ∙ sym (c .before .before .before .is-comment .ensures) ∙ not-false _ (c .before .before .if2 .left)) in
     (onward-more f _ (l .c) (p .result .next) (l .inv .0) (p .ensures .onward), onward-number f (l .c) (p .result .next) (l .inv .1) (p .ensures .onward), l .inv .2 ∙ t)
 
 returns-2 : tie.Need-returns-2 Inv-loop μ-loop
