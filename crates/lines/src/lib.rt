@@ -5,6 +5,7 @@ mod file;
 mod joiner;
 mod utf8;
 
+pub use bytes::copy_into;
 pub use error::Error;
 pub use file::Check;
 pub use joiner::Cursor;
