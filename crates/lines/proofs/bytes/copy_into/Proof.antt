@@ -1,5 +1,5 @@
 -- `copy_into` answers whether the part fits, and then the buffer has it: the two tests say so without a wrap.
-use mathlib.Core.Path.{_≡_, refl}
+use mathlib.Core.Path.{_≡_}
 use mathlib.Core.Bool.{true, false, cond}
 use Prim.Native.Nat.{ℕ, _+_, _≤_, _<_}
 use native.Mathlib.Omega.{arith}
