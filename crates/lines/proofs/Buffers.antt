@@ -43,8 +43,8 @@ module _ {A : Type 0} where
   -- ---- one part more
 
   -- a part at the end of what is filled
-  pub filled-put : (xs p d : List A) → length xs + length p ≤ length d → put (filled xs d) (length xs) p ≡ filled (xs ++ p) d
-  filled-put xs p d h =
+  pub filled-put : (xs p d : List A) → put (filled xs d) (length xs) p ≡ filled (xs ++ p) d
+  filled-put xs p d =
       rw (take-filled xs d, drop-append-add xs (drop (length xs) d) (length p), drop-drop (length p) (length xs) d, length-append xs p)
 
   filled-last : (xs d : List A) (a : A) → filled (xs ++ a ∷ []) d ≡ xs ++ a ∷ drop (suc (length xs)) d

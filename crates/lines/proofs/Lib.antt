@@ -3,3 +3,18 @@ pub mod Bools
 pub mod Comparison
 pub mod Buffers
 pub mod Trimming
+pub mod Slices
+pub mod LineFeeds
+-- UTF-8 and the check of a file
+pub mod Utf8Laws
+pub mod Encoded
+pub mod FileLaws
+-- physical and logical lines
+pub mod Runs
+pub mod Physicals
+pub mod Joining
+-- the joiner
+pub mod CursorSteps
+pub mod Pieces
+pub mod Walk
+pub mod Reading

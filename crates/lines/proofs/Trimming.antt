@@ -5,8 +5,8 @@ use native.Mathlib.Omega.{arith}
 use mathlib.Core.Bool.{true, false, not, _&&_, cond}
 use mathlib.Core.List.{[], _∷_, _++_}
 use native.Mathlib.Numerals.{add-one}
-use lib.ListN.{length, take, drop, getD, length-drop, drop-of-length-le}
-use lib.Seq.{drop-cons, take-suc, take-all}
+use lib.ListN.{length, take, drop, getD, drop-of-length-le}
+use lib.Seq.{drop-cons, take-suc}
 use Rattle.lines.specs.Bytes.{Bytes, blank, all}
 use Rattle.lines.specs.Trim.{trimStart, trimEnd, trim}
 use Rattle.lines.proofs.Bools.{by-cases, and-left, and-right, and-false, not-true}
@@ -156,9 +156,6 @@ closed : (s : Bytes) (at : ℕ) → 0 < at → at ≤ length s → take at s ≡
 closed s at h k =
     let e : at ≡ suc (at - 1) = omega arith in
     ap (λ (n : ℕ). take n s) e ∙ take-suc s (at - 1) 0 (omega arith)
-
-pub start-part : (s : Bytes) (at : ℕ) → take (length s - at) (drop at s) ≡ drop at s
-start-part s at = take-all (length s - at) (drop at s) (omega (arith, length-drop at s))
 
 pub end-part : (s : Bytes) (at : ℕ) → take (at - 0) s ≡ take at s
 end-part s at = let e : at - 0 ≡ at = omega arith in rw e

@@ -1,6 +1,6 @@
 -- What a buffer (the rules' room) holds after something was put into it.
 use Prim.Native.Nat.{ℕ, _+_}
-use mathlib.Core.List.{List, [], _∷_, _++_}
+use mathlib.Core.List.{List, _++_}
 use lib.ListN.{length, take, drop}
 
 -- xs at the front, and the rest as it was

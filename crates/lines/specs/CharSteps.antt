@@ -1,11 +1,11 @@
--- The length of the character at the start of bytes. Only private functions cite this file.
-use Prim.Native.Nat.{ℕ, zero, suc}
+-- Steps of the passes over bytes. Only private functions cite this file.
+use Prim.Native.Nat.{ℕ, suc, _+_}
 use mathlib.Core.Bool.{Bool, true, false, _&&_, cond}
 use mathlib.Core.List.{List, [], _∷_}
 use lib.ListN.{length, getD, drop}
-use lib.Dec.{ltb}
-use Rattle.lines.specs.Bytes.{Bytes}
-use Rattle.lines.specs.Utf8.{Range, range, within, Row, row, rows}
+use lib.Dec.{ltb, eqb}
+use Rattle.lines.specs.Bytes.{Bytes, isLF, control}
+use Rattle.lines.specs.Utf8.{Range, within, Row, row, rows}
 
 -- the byte at index i is there and in the range
 unfoldable pub inAt : Range → ℕ → Bytes → Bool
@@ -31,3 +31,13 @@ charIn (row r rs ∷ qs) t = cond (inAt r 0 t) (lengthBy rs t) (charIn qs t)
 unfoldable pub charLength : Bytes → ℕ
 unfolding charIn rows
 charLength t = charIn rows t
+
+-- ---- the check of a file
+
+-- the line after a byte
+abbrev pub lineAfter : ℕ → ℕ → ℕ
+lineAfter line b = cond (isLF b) (line + 1) line
+
+-- the line of the first control byte, 0 while there is none
+abbrev pub controlAfter : ℕ → ℕ → ℕ → ℕ
+controlAfter found line b = cond (eqb found 0 && control b) line found

@@ -1,7 +1,7 @@
 -- The joiner: the logical lines from a cursor on, and the answer for the next one.
 use mathlib.Core.Path.{_≡_}
-use Prim.Native.Nat.{ℕ, zero, suc, _+_, _-_}
-use mathlib.Core.Bool.{Bool, true, false, cond}
+use Prim.Native.Nat.{ℕ, _+_, _-_}
+use mathlib.Core.Bool.{cond}
 use mathlib.Core.Option.{Option, none, some}
 use mathlib.Core.List.{List, [], _∷_}
 use lib.ListN.{length, take, drop}
@@ -38,8 +38,9 @@ stretch a e f = take (e - a) (drop a f)
 unfoldable pub past : Bytes → Cursor → Line → Cursor
 unfolding lineFeeds
 past f c l = record {
-    offset = endOf f (l .shut);
-    line = c .line + lineFeeds (stretch (c .offset) (endOf f (l .shut)) f) }
+  offset = endOf f (l .shut);
+  line = c .line + lineFeeds (stretch (c .offset) (endOf f (l .shut)) f);
+}
 
 -- the next logical line: the first of those that are left; over 4,096 bytes it is refused with 5
 unfoldable pub nextOf : List Line → Outcome (Option Line)

@@ -1,7 +1,7 @@
 -- What is judged of a whole file before its lines: refusals 2, 3 and 4.
-use Prim.Native.Nat.{ℕ, zero, suc, _+_}
-use mathlib.Core.Bool.{Bool, true, false, not, cond}
-use mathlib.Core.List.{List, [], _∷_}
+use Prim.Native.Nat.{ℕ, suc, _+_}
+use mathlib.Core.Bool.{Bool, false, not, cond}
+use mathlib.Core.List.{[], _∷_}
 use lib.ListN.{length, take}
 use lib.Dec.{ltb}
 use Rattle.lines.specs.Bytes.{Bytes, isLF, control, all, lineFeeds}

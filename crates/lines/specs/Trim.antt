@@ -1,6 +1,6 @@
 -- Trimming: blanks at both ends go.
-use mathlib.Core.Bool.{Bool, true, false, cond}
-use mathlib.Core.List.{List, [], _∷_}
+use mathlib.Core.Bool.{cond}
+use mathlib.Core.List.{[], _∷_}
 use Rattle.lines.specs.Bytes.{Bytes, blank, all}
 
 -- blanks at the start

@@ -4,7 +4,7 @@ ghost use mathlib.Core.Bool.{cond};
 ghost use Prim.Native.Nat.{_+_, _≤_};
 ghost use lib.ListN.{length};
 ghost use lib.Dec.{leb};
-ghost use Rattle.lines.specs.Bytes.{between, blank, letter, digit, keyByte, headerByte, same};
+ghost use Rattle.lines.specs.Bytes.{between, blank, control, letter, digit, keyByte, headerByte, same};
 ghost use Rattle.lines.specs.Trim.{trimStart, trimEnd, trim};
 ghost use Rattle.lines.specs.Buffers.{put};
 
@@ -22,6 +22,16 @@ pub fn is_blank(b: u8) -> bool
     ensures { λ r. ⌜ r ≡ blank b ⌝ }
 {
     b == b' ' || b == b'\t'
+}
+
+// A control byte of a file: 00 to 1F but tab and LF, and 7F.
+pub fn is_control(b: u8) -> bool
+    ensures { λ r. ⌜ r ≡ control b ⌝ }
+{
+    if b <= 0x1F {
+        return b != b'\t' && b != b'\n';
+    }
+    b == 0x7F
 }
 
 pub fn is_letter(b: u8) -> bool

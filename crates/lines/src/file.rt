@@ -1,7 +1,83 @@
 // The check of a whole file, before its lines are read.
+use crate::bytes::is_control;
 use crate::error::Error;
+use crate::utf8::char_length;
+ghost use mathlib.Core.Path.{_≡_};
+ghost use Prim.Native.Nat.{_<_, _^_};
+ghost use lib.Dec.{ltb};
+ghost use Rattle.lines.specs.Files.{size, judged, checked, checkMeans};
+ghost use Rattle.lines.specs.CharSteps.{lineAfter, controlAfter};
 
 pub enum Check {
     Accepted,
     Refused(Error),
+}
+
+// More than 65,535 bytes, where a file that is not empty and does not end in LF counts one more.
+fn too_long(file: &[u8]) -> bool
+    ensures { λ r. ⌜ r ≡ ltb 65535 (size (now (file .entry))) ⌝ }
+{
+    if file.len() < 65535 {
+        return false;
+    }
+    if 65535 < file.len() {
+        return true;
+    }
+    file[65534] != b'\n'
+}
+
+// The line of what follows the byte b.
+fn line_after(line: usize, b: u8) -> usize
+    requires { ⌜ line < 2 ^ 63 ⌝ }
+    ensures { λ r. ⌜ r ≡ lineAfter line b ⌝ }
+{
+    if b == b'\n' {
+        return line + 1;
+    }
+    line
+}
+
+// The line of the first control byte, where `found` is that of the bytes before b; 0 is none.
+fn control_after(found: usize, line: usize, b: u8) -> usize
+    ensures { λ r. ⌜ r ≡ controlAfter found line b ⌝ }
+{
+    if found == 0 {
+        if is_control(b) {
+            return line;
+        }
+    }
+    found
+}
+
+// The bytes of a file: first UTF-8, then control bytes, in one pass from character to character.
+fn check_bytes(file: &[u8]) -> Check
+    ensures { λ r. ⌜ checkMeans r ≡ judged (now (file .entry)) ⌝ }
+{
+    let mut i = 0;
+    let mut line = 1;
+    let mut found = 0;
+    while i < file.len() {
+        let n = char_length(&file[i..]);
+        if n == 0 {
+            return Check::Refused(Error::NotUtf8(line));
+        }
+        let b = file[i];
+        found = control_after(found, line, b);
+        line = line_after(line, b);
+        i += n;
+    }
+    if found == 0 {
+        return Check::Accepted;
+    }
+    Check::Refused(Error::ControlByte(found))
+}
+
+// What is judged of a whole file: its size, UTF-8, control bytes.
+pub fn check_file(file: &[u8]) -> Check
+    ensures { λ r. ⌜ checkMeans r ≡ checked (now (file .entry)) ⌝ }
+{
+    if too_long(file) {
+        return Check::Refused(Error::FileTooLong);
+    }
+    check_bytes(file)
 }

@@ -1,0 +1,183 @@
+-- The check of a file: its size by its last byte, and what holds of a pass from character to character.
+-- The bytes after the first of a character are 80 or above, so only first bytes can be LF or a control byte.
+use mathlib.Core.Path.{_≡_, refl, sym, ap, _∙_}
+use Prim.Native.Nat.{ℕ, zero, suc, _+_, _≤_, _<_, zero-le}
+use native.Mathlib.Omega.{arith}
+use mathlib.Core.Bool.{Bool, true, false, not, cond}
+use mathlib.Core.List.{[], _∷_, _++_}
+use lib.ListN.{length, take, drop, getD, length-drop, take-append-drop}
+use lib.Seq.{drop-cons, take-add, take-all, length-take-le}
+use lib.Dec.{ltb, eqb, leb·zero, eqb·suc-zero}
+use borrow.Author.Tests.{leb-true, lt-leb, lt-ltb, le-ltb, ne-eqb}
+use Rattle.lines.specs.Bytes.{Bytes, isLF, control, all, lineFeeds}
+use Rattle.lines.specs.Utf8.{utf8, well}
+use Rattle.lines.specs.CharSteps.{charLength, lineAfter, controlAfter}
+use Rattle.lines.specs.Answers.{accepted, refused}
+use Rattle.lines.specs.Files.{endsOpen, size, lineAt, plain, firstControl, judged}
+use Rattle.lines.proofs.Bools.{by-cases, and-left, and-right, all-append, all-imp, not-true, impossible}
+use Rattle.lines.proofs.LineFeeds.{lineFeeds-append, lineFeeds-length}
+use Rattle.lines.proofs.Utf8Laws.{highByte, Character, character, utf8-append, not-utf8, start-ends}
+
+-- ---- size
+
+ends-open : (f : Bytes) (n : ℕ) → length f ≡ suc n → endsOpen f ≡ not (isLF (getD f n 0))
+unfolding endsOpen
+ends-open [] n e = absurd (omega arith)
+ends-open (b ∷ []) zero e = refl
+ends-open (b ∷ []) (suc n) e = absurd (omega arith)
+ends-open (b ∷ c ∷ cs) zero e = absurd (omega arith)
+ends-open (b ∷ c ∷ cs) (suc n) e = ends-open (c ∷ cs) n (omega arith)
+
+pub size-below : (n : ℕ) (f : Bytes) → length f < n → ltb n (size f) ≡ false
+unfolding size
+size-below n f h =
+    by-cases (endsOpen f)
+    (λ e. rw e (le-ltb n (length f + 1) (omega arith)))
+    (λ e. rw e (le-ltb n (length f) (omega arith)))
+
+pub size-over : (n : ℕ) (f : Bytes) → n < length f → ltb n (size f) ≡ true
+unfolding size
+size-over n f h =
+    by-cases (endsOpen f)
+    (λ e. rw e (lt-ltb n (length f + 1) (omega arith)))
+    (λ e. rw e (lt-ltb n (length f) (omega arith)))
+
+-- at the limit the last byte decides
+pub size-at : (n : ℕ) (f : Bytes) → length f ≡ suc n → ltb (suc n) (size f) ≡ not (isLF (getD f n 0))
+unfolding size
+size-at n f h =
+    by-cases (endsOpen f)
+    (λ e. rw (e, ← ends-open f n h, e) (lt-ltb (suc n) (length f + 1) (omega arith)))
+    (λ e. rw (e, ← ends-open f n h, e) (le-ltb (suc n) (length f) (omega arith)))
+
+-- ---- bytes 80 and above: no LF, no control byte
+
+high-plain : (b : ℕ) → highByte b ≡ true → plain b ≡ true
+high-plain b h =
+    let k : 0x80 ≤ b = leb-true 0x80 b h in
+    rw (leb·zero b, lt-leb b 0x1F (omega arith), ne-eqb b 0x7F (omega arith))
+
+high-feeds : (l : Bytes) → all highByte l ≡ true → lineFeeds l ≡ 0
+unfolding all lineFeeds
+high-feeds [] h = refl
+high-feeds (b ∷ l) h =
+    let k : 0x80 ≤ b = leb-true 0x80 b (and-left (highByte b) (all highByte l) h) in
+    rw (ne-eqb b 0x0A (omega arith)) (high-feeds l (and-right (highByte b) (all highByte l) h))
+
+-- ---- lines
+
+-- a character more
+feeds-more : (a : Bytes) (b : ℕ) (t : Bytes) → all highByte t ≡ true
+    → suc (lineFeeds (a ++ b ∷ t)) ≡ lineAfter (suc (lineFeeds a)) b
+unfolding lineFeeds
+feeds-more a b t h =
+    let e = lineFeeds-append a (b ∷ t) in
+    let z = high-feeds t h in
+    by-cases (isLF b)
+    (λ y. let e′ = rw y at e in rw y (omega arith))
+    (λ y. let e′ = rw y at e in rw y (omega arith))
+
+-- ---- the line of the first control byte, 0 where there is none
+
+unfoldable pub controlLine : Bytes → ℕ
+unfolding all lineAt firstControl
+controlLine d = cond (all plain d) 0 (lineAt (firstControl d) d)
+
+-- where there is one, what follows does not count
+first-stays : (a c : Bytes) → all plain a ≡ false
+    → lineFeeds (take (firstControl (a ++ c)) (a ++ c)) ≡ lineFeeds (take (firstControl a) a)
+unfolding all firstControl lineFeeds
+first-stays [] c h = impossible (sym h)
+first-stays (x ∷ a) c h =
+    by-cases (control x)
+    (λ y. rw y)
+    (λ y. rw (y, first-stays a c (rw y at h)))
+
+-- where there is none, the next byte may be it
+first-here : (a : Bytes) (b : ℕ) (t : Bytes) → all plain a ≡ true → control b ≡ true
+    → lineFeeds (take (firstControl (a ++ b ∷ t)) (a ++ b ∷ t)) ≡ lineFeeds a
+unfolding all firstControl lineFeeds
+first-here [] b t h k = rw k
+first-here (x ∷ a) b t h k =
+    rw (
+      not-true (control x) (and-left (plain x) (all plain a) h),
+      first-here a b t (and-right (plain x) (all plain a) h) k,
+    )
+
+control-more : (a : Bytes) (b : ℕ) (t : Bytes) → all highByte t ≡ true
+    → controlLine (a ++ b ∷ t) ≡ controlAfter (controlLine a) (suc (lineFeeds a)) b
+unfolding controlLine
+control-more a b t h = go (all plain a) refl (control b) refl
+  where
+    plain-t : all plain t ≡ true
+    plain-t = all-imp highByte plain high-plain t h
+
+    go : (p : Bool) → all plain a ≡ p → (q : Bool) → control b ≡ q
+        → controlLine (a ++ b ∷ t) ≡ controlAfter (controlLine a) (suc (lineFeeds a)) b
+    go false e q y = rw (all-append plain a (b ∷ t), e, first-stays a (b ∷ t) e, eqb·suc-zero)
+    go true e true y = rw (all-append plain a (b ∷ t), e, y, first-here a b t e y)
+    go true e false y = rw (all-append plain a (b ∷ t), e, y, plain-t)
+
+-- ---- the pass
+
+-- i bytes of the file are passed, and they are whole characters: `line` is the line of what follows,
+-- `found` the line of the first control byte among them
+pub record Passed (f : Bytes) (i line found : ℕ) : Type 0 where
+  pub inside : i ≤ length f
+  pub legal : utf8 (take i f) ≡ true
+  pub lines : line ≡ lineAt i f
+  pub first : found ≡ controlLine (take i f)
+
+pub start : (f : Bytes) → Passed f 0 1 0
+unfolding utf8 well lineAt lineFeeds controlLine all
+start f = record { inside = zero-le; legal = refl; lines = refl; first = refl }
+
+-- each line but the first begins after an LF
+pub line-fits : {f : Bytes} {i line found : ℕ} → Passed f i line found → line ≤ i + 1
+unfolding lineAt
+line-fits {f} {i} p = omega (arith, p .lines, lineFeeds-length (take i f), length-take-le i f (p .inside))
+
+-- a character of n bytes more
+pub go : {f : Bytes} {i line found : ℕ} (n : ℕ) → Passed f i line found → i < length f
+    → n ≡ charLength (drop i f) → (n ≡ 0 → ⊥)
+    → Passed f (i + n) (lineAfter line (getD f i 0)) (controlAfter found line (getD f i 0))
+go zero p h e ne = absurd (ne refl)
+go {f} {i} (suc k) p h e ne = record {
+  inside = omega (arith, char .fits, length-drop (suc i) f);
+  legal = rw more (utf8-append (take i f) (b ∷ t) (p .legal) ∙ char .legal);
+  lines = unfold lineAt in rw (more, feeds-more (take i f) b t (char .rest), p .lines);
+  first = rw (more, control-more (take i f) b t (char .rest), ← p .first, p .lines) (unfold lineAt in refl);
+}
+  where
+    b : ℕ
+    b = getD f i 0
+
+    t : Bytes
+    t = take k (drop (suc i) f)
+
+    char : Character b (drop (suc i) f) k
+    char = character b (drop (suc i) f) k (ap charLength (sym (drop-cons f i 0 h)) ∙ sym e)
+
+    more : take (i + suc k) f ≡ take i f ++ b ∷ t
+    more = take-add i (suc k) f ∙ ap (λ (l : Bytes). take i f ++ take (suc k) l) (drop-cons f i 0 h)
+
+-- no character stands there: refused with 3
+pub broken : {f : Bytes} {i line found : ℕ} → Passed f i line found → i < length f → charLength (drop i f) ≡ 0
+    → judged f ≡ refused 3 line
+unfolding judged
+broken {f} {i} p h e =
+    let u : utf8 f ≡ false =
+    ap utf8 (sym (take-append-drop i f) ∙ ap (λ (l : Bytes). take i f ++ l) (drop-cons f i 0 h))
+    ∙ not-utf8 (take i f) (getD f i 0) (drop (suc i) f) (p .legal) (ap charLength (sym (drop-cons f i 0 h)) ∙ e) in
+    rw (u, start-ends f i (p .inside) (p .legal) e, p .lines)
+
+-- the file has ended: control bytes decide
+pub ended : {f : Bytes} {i line found : ℕ} → Passed f i line found → length f ≤ i
+    → judged f ≡ cond (eqb found 0) (accepted tt) (refused 4 found)
+unfolding judged controlLine lineAt
+ended {f} {i} {found = found} p h =
+    let u : utf8 f ≡ true = ap utf8 (sym (take-all i f h)) ∙ p .legal in
+    let c : found ≡ controlLine f = p .first ∙ ap controlLine (take-all i f h) in
+    by-cases (all plain f)
+    (λ e. rw (u, e, c, e))
+    (λ e. rw (u, e, c, e, eqb·suc-zero))

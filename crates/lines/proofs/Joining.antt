@@ -1,0 +1,109 @@
+-- What one more physical line does to the logical lines: a comment nothing, a continued line waits for
+-- what follows, any other is a logical line or completes the one that waits.
+use mathlib.Core.Path.{_≡_, refl, sym, ap, _∙_}
+use Prim.Native.Nat.{ℕ, _+_, _≤_}
+use native.Mathlib.Omega.{arith}
+use mathlib.Core.Bool.{true, false, not}
+use mathlib.Core.List.{List, [], _∷_, _++_, append-assoc, append-nil}
+use lib.ListN.{length, length-append}
+use Rattle.lines.specs.Bytes.{Bytes}
+use Rattle.lines.specs.Lines.{Line, comment, continued, spaced, follow, joined}
+use Rattle.lines.specs.LineSteps.{piece, ends, firstBytes}
+use Rattle.lines.proofs.Bools.{by-cases, impossible}
+use Rattle.lines.proofs.Runs.{spaced-length}
+use Rattle.lines.proofs.Physicals.{openLine}
+
+-- the logical lines `ls`, where the bytes `a`, of the line that began at line m, wait for their continuation
+unfoldable pub waiting : ℕ → Bytes → List Line → List Line
+waiting m a [] = openLine m a ∷ []
+waiting m a (k ∷ ks) = record { number = m; bytes = a ++ k .bytes; shut = k .shut } ∷ ks
+
+module _ (l : Line) (ls : List Line) where
+  pub joined-comment : comment (l .bytes) ≡ true → joined (l ∷ ls) ≡ joined ls
+  unfolding joined
+  joined-comment e = rw e
+
+  pub joined-line : comment (l .bytes) ≡ false → continued (l .bytes) ≡ false → joined (l ∷ ls) ≡ l ∷ joined ls
+  unfolding joined
+  joined-line e k = rw (e, k)
+
+  pub joined-open : comment (l .bytes) ≡ false → continued (l .bytes) ≡ true
+      → joined (l ∷ ls) ≡ waiting (l .number) (spaced (l .bytes)) (joined ls)
+  unfolding joined follow waiting
+  joined-open e k = rw (e, k) (go (joined ls))
+    where
+      go : (r : List Line) → follow l r ≡ waiting (l .number) (spaced (l .bytes)) r
+      go [] = refl
+      go (k ∷ r) = refl
+
+  module _ (m : ℕ) (a : Bytes) where
+    pub waiting-comment : comment (l .bytes) ≡ true → waiting m a (joined (l ∷ ls)) ≡ waiting m a (joined ls)
+    waiting-comment e = rw (joined-comment e)
+
+    pub waiting-line : comment (l .bytes) ≡ false → continued (l .bytes) ≡ false
+        → waiting m a (joined (l ∷ ls)) ≡ record { number = m; bytes = a ++ l .bytes; shut = l .shut } ∷ joined ls
+    unfolding waiting
+    waiting-line e k = rw (joined-line e k)
+
+    pub waiting-open : comment (l .bytes) ≡ false → continued (l .bytes) ≡ true
+        → waiting m a (joined (l ∷ ls)) ≡ waiting m (a ++ spaced (l .bytes)) (joined ls)
+    unfolding waiting
+    waiting-open e k = rw (joined-open e k) (go (joined ls))
+      where
+        go : (r : List Line) → waiting m a (waiting (l .number) (spaced (l .bytes)) r) ≡ waiting m (a ++ spaced (l .bytes)) r
+        go [] = refl
+        go (k ∷ r) = ap (λ (b : Bytes). record { number = m; bytes = b; shut = k .shut } ∷ r) (sym (append-assoc a (spaced (l .bytes)) (k .bytes)))
+
+-- ---- a physical line as a piece of the logical line
+
+module _ (l : Bytes) where
+  pub piece-comment : comment l ≡ true → (piece l ≡ []) × (ends l ≡ false)
+  unfolding piece ends
+  piece-comment e = (rw e, rw e)
+
+  pub piece-open : comment l ≡ false → continued l ≡ true → (piece l ≡ spaced l) × (ends l ≡ false)
+  unfolding piece ends
+  piece-open e k = (rw (e, k), rw (e, k))
+
+  pub piece-line : comment l ≡ false → continued l ≡ false → (piece l ≡ l) × (ends l ≡ true)
+  unfolding piece ends
+  piece-line e k = (rw (e, k), rw (e, k))
+
+  pub ends-line : comment l ≡ false → ends l ≡ not (continued l)
+  unfolding ends
+  ends-line e = rw e
+
+  pub piece-length : comment l ≡ false → length (piece l) ≡ length l
+  piece-length e =
+      by-cases (continued l) (λ k. ap length (piece-open e k .0) ∙ spaced-length l) (λ k. ap length (piece-line e k .0))
+
+-- one turn of a loop over the physical lines
+module _ (m : ℕ) (a : Bytes) (l : Line) (ls : List Line) where
+  pub waiting-ends : ends (l .bytes) ≡ true
+      → waiting m a (joined (l ∷ ls)) ≡ record { number = m; bytes = a ++ piece (l .bytes); shut = l .shut } ∷ joined ls
+  waiting-ends h =
+      by-cases (comment (l .bytes)) (λ e. impossible (sym (piece-comment (l .bytes) e .1) ∙ h))
+      (λ e. by-cases (continued (l .bytes)) (λ k. impossible (sym (piece-open (l .bytes) e k .1) ∙ h))
+      (λ k. waiting-line l ls m a e k ∙ rw (piece-line (l .bytes) e k .0)))
+
+  pub waiting-more : ends (l .bytes) ≡ false → waiting m a (joined (l ∷ ls)) ≡ waiting m (a ++ piece (l .bytes)) (joined ls)
+  waiting-more h =
+      by-cases (comment (l .bytes)) (λ e. waiting-comment l ls m a e ∙ rw (piece-comment (l .bytes) e .0, append-nil))
+      (λ e. by-cases (continued (l .bytes)) (λ k. waiting-open l ls m a e k ∙ rw (piece-open (l .bytes) e k .0))
+      (λ k. impossible (sym h ∙ piece-line (l .bytes) e k .1)))
+
+-- a line that is no comment begins a logical line with its own number
+pub waiting-start : (l : Line) (ls : List Line) → comment (l .bytes) ≡ false → waiting (l .number) [] (joined (l ∷ ls)) ≡ joined (l ∷ ls)
+unfolding waiting
+waiting-start l ls e =
+    by-cases (continued (l .bytes)) (λ k. rw (joined-open l ls e k) (go (joined ls))) (λ k. rw (joined-line l ls e k))
+  where
+    go : (r : List Line) → waiting (l .number) [] (waiting (l .number) (spaced (l .bytes)) r) ≡ waiting (l .number) (spaced (l .bytes)) r
+    go [] = refl
+    go (k ∷ r) = refl
+
+-- what waits is the start of the line that comes
+pub waiting-first : (m : ℕ) (a : Bytes) (ls : List Line) → length a ≤ length (firstBytes (waiting m a ls))
+unfolding waiting
+waiting-first m a [] = omega arith
+waiting-first m a (k ∷ ks) = omega (arith, length-append a (k .bytes))

@@ -1,0 +1,17 @@
+-- `line_after` meets its contract: each return goes by the test that led there.
+use borrow.Author.Needs.{needs}
+use borrow.Author.Tests.{eq-eqb, ne-eqb}
+use Rattle.lines.proofs.file.line_after.Statement.{statement}
+use Rattle.lines.proofs.file.line_after.Tie as tie
+
+add-result : tie.Need-add-result
+add-result c = search needs
+
+returns : tie.Need-returns
+returns c = simp (eq-eqb _ _ (c .if1 .taken))
+
+returns-2 : tie.Need-returns-2
+returns-2 c = simp (ne-eqb _ _ (c .if1 .left))
+
+pub line-after-spec : {M : Type 1} → statement M
+line-after-spec = tie.close (tie.spec add-result returns returns-2)
