@@ -107,3 +107,39 @@ pub waiting-first : (m : ℕ) (a : Bytes) (ls : List Line) → length a ≤ leng
 unfolding waiting
 waiting-first m a [] = omega arith
 waiting-first m a (k ∷ ks) = omega (arith, length-append a (k .bytes))
+
+-- ---- lists of lines
+
+-- a comment may stand anywhere among the lines
+pub joined-without : (a : List Line) (c : Line) (b : List Line) → comment (c .bytes) ≡ true → joined (a ++ c ∷ b) ≡ joined (a ++ b)
+unfolding joined
+joined-without [] c b h = rw h
+joined-without (l ∷ a) c b h = rw (joined-without a c b h)
+
+abbrev pub bytesOf : List Line → List Bytes
+bytesOf [] = []
+bytesOf (l ∷ ls) = l .bytes ∷ bytesOf ls
+
+-- numbers and offsets decide nothing: the bytes of the logical lines come from those of the physical ones
+pub joined-same : (ls ks : List Line) → bytesOf ls ≡ bytesOf ks → bytesOf (joined ls) ≡ bytesOf (joined ks)
+unfolding joined
+joined-same [] [] e = refl
+joined-same [] (k ∷ ks) e = let y : _≡_ {A = ℕ} 0 1 = cc in absurd (omega arith)
+joined-same (l ∷ ls) [] e = let y : _≡_ {A = ℕ} 0 1 = cc in absurd (omega arith)
+joined-same (l ∷ ls) (k ∷ ks) e = go (cc) (joined-same ls ks (cc))
+  where
+    follow-same : l .bytes ≡ k .bytes → (r q : List Line) → bytesOf r ≡ bytesOf q → bytesOf (follow l r) ≡ bytesOf (follow k q)
+    follow-same b [] [] i = unfold follow in (rw b)
+    follow-same b [] (x ∷ q) i = let y : _≡_ {A = ℕ} 0 1 = cc in absurd (omega arith)
+    follow-same b (x ∷ r) [] i = let y : _≡_ {A = ℕ} 0 1 = cc in absurd (omega arith)
+    follow-same b (x ∷ r) (z ∷ q) i =
+        let h : x .bytes ≡ z .bytes = cc in
+        let t : bytesOf r ≡ bytesOf q = cc in
+        unfold follow in (rw (b, h, t))
+
+    go : l .bytes ≡ k .bytes → bytesOf (joined ls) ≡ bytesOf (joined ks) → bytesOf (joined (l ∷ ls)) ≡ bytesOf (joined (k ∷ ks))
+    go b i =
+        by-cases (comment (k .bytes)) (λ c. rw (ap comment b ∙ c, c) i)
+        (λ c. by-cases (continued (k .bytes))
+        (λ o. rw (ap comment b ∙ c, c, ap continued b ∙ o, o) (follow-same b (joined ls) (joined ks) i))
+        (λ o. rw (ap comment b ∙ c, c, ap continued b ∙ o, o, b, i)))

@@ -13,8 +13,13 @@ pub mod FileLaws
 pub mod Runs
 pub mod Physicals
 pub mod Joining
+pub mod Totals
+pub mod Appending
+pub mod Whole
+pub mod Legal
 -- the joiner
 pub mod CursorSteps
 pub mod Pieces
 pub mod Walk
 pub mod Reading
+pub mod Promises

@@ -85,3 +85,8 @@ joined (l ∷ ls) =
 unfoldable pub logical : Bytes → List Line
 unfolding physical joined
 logical f = joined (physical 1 0 f)
+
+-- lines written out, each with its LF
+unfoldable pub written : List Bytes → Bytes
+written [] = []
+written (l ∷ ls) = l ++ 0x0A ∷ written ls

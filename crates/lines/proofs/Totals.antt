@@ -1,0 +1,70 @@
+-- The logical lines, with one byte each for their LF, are paid for by the file: together they are at
+-- most its size. Physical lines are exactly its size, and joining only shortens.
+use mathlib.Core.Path.{_≡_, refl, sym, ap, _∙_}
+use Prim.Native.Nat.{ℕ, suc, _+_, _≤_}
+use native.Mathlib.Omega.{arith}
+use mathlib.Core.Bool.{true, not}
+use mathlib.Core.List.{List, [], _∷_, _++_}
+use lib.ListN.{length, length-append}
+use Rattle.lines.specs.Bytes.{Bytes, isLF, all}
+use Rattle.lines.specs.Lines.{Line, physical, comment, continued, spaced, follow, joined, logical}
+use Rattle.lines.specs.Files.{endsOpen, size}
+use Rattle.lines.proofs.Bools.{by-cases, and-left, and-right}
+use Rattle.lines.proofs.Runs.{spaced-length}
+use Rattle.lines.proofs.Physicals.{noLF, physical-cons, physical-last, Cut, nothing, last, more, cut}
+
+-- the bytes of lines, each with its LF
+unfoldable pub total : List Line → ℕ
+total [] = 0
+total (l ∷ ls) = suc (length (l .bytes)) + total ls
+
+-- ---- physical lines
+
+pub open-last : (b : ℕ) (bs : Bytes) → noLF (b ∷ bs) ≡ true → endsOpen (b ∷ bs) ≡ true
+unfolding endsOpen noLF all
+open-last b [] h = and-left (not (isLF b)) true h
+open-last b (c ∷ cs) h = open-last c cs (and-right (not (isLF b)) (noLF (c ∷ cs)) h)
+
+pub open-more : (l rest : Bytes) → endsOpen (l ++ 0x0A ∷ rest) ≡ endsOpen rest
+unfolding endsOpen
+open-more [] [] = refl
+open-more [] (c ∷ cs) = refl
+open-more (b ∷ []) rest = open-more [] rest
+open-more (b ∷ c ∷ l) rest = open-more (c ∷ l) rest
+
+size-more : (l rest : Bytes) → size (l ++ 0x0A ∷ rest) ≡ suc (length l) + size rest
+unfolding size
+size-more l rest =
+    let n : length (l ++ 0x0A ∷ rest) ≡ length l + suc (length rest) = length-append l (0x0A ∷ rest) in
+    rw (open-more l rest) (by-cases (endsOpen rest) (λ e. rw e (omega arith)) (λ e. rw e (omega arith)))
+
+total-cut : (n a : ℕ) (f : Bytes) → Cut f → total (physical n a f) ≡ size f
+unfolding total physical size endsOpen
+total-cut n a f nothing = refl
+total-cut n a f (last b bs h) = ap total (physical-last b bs n a h) ∙ rw (open-last b bs h) (omega arith)
+total-cut n a f (more l rest h k) =
+    ap total (physical-cons l rest n a h)
+    ∙ ap (λ (t : ℕ). suc (length l) + t) (total-cut (suc n) (suc (a + length l)) rest k)
+    ∙ sym (size-more l rest)
+
+pub physical-total : (f : Bytes) (n a : ℕ) → total (physical n a f) ≡ size f
+physical-total f n a = total-cut n a f (cut f)
+
+-- ---- logical lines
+
+follow-total : (l : Line) (ls : List Line) → total (follow l ls) ≤ suc (length (l .bytes)) + total ls
+unfolding follow total
+follow-total l [] = omega (arith, spaced-length (l .bytes))
+follow-total l (k ∷ ks) = omega (arith, spaced-length (l .bytes), length-append (spaced (l .bytes)) (k .bytes))
+
+pub joined-total : (ls : List Line) → total (joined ls) ≤ total ls
+unfolding joined total
+joined-total [] = omega arith
+joined-total (l ∷ ls) =
+    let ih : total (joined ls) ≤ total ls = joined-total ls in
+    by-cases (comment (l .bytes)) (λ c. rw c (omega arith))
+    (λ c. by-cases (continued (l .bytes)) (λ e. rw (c, e) (omega (arith, follow-total l (joined ls)))) (λ e. rw (c, e) (omega arith)))
+
+pub logical-total : (f : Bytes) → total (logical f) ≤ size f
+unfolding logical
+logical-total f = omega (arith, joined-total (physical 1 0 f), physical-total f 1 0)

@@ -1,0 +1,40 @@
+-- A line with no LF, no comment start and no odd closing run is read back as itself.
+use mathlib.Core.Path.{_≡_, refl, ap, _∙_}
+use Prim.Native.Nat.{ℕ, suc, _+_}
+use mathlib.Core.Bool.{true, false}
+use mathlib.Core.List.{List, [], _∷_, _++_}
+use lib.ListN.{length}
+use Rattle.lines.specs.Bytes.{Bytes}
+use Rattle.lines.specs.Lines.{physical, comment, continued, joined, logical, written}
+use Rattle.lines.proofs.Physicals.{shutLine, noLF, physical-cons}
+use Rattle.lines.proofs.Joining.{bytesOf, joined-line}
+
+pub record Whole (l : Bytes) : Type 0 where
+  pub one : noLF l ≡ true
+  pub kept : comment l ≡ false
+  pub ends : continued l ≡ false
+
+-- in front of any file
+pub whole-cons : (l rest : Bytes) (n a : ℕ) → Whole l
+    → joined (physical n a (l ++ 0x0A ∷ rest)) ≡ shutLine n a l ∷ joined (physical (suc n) (suc (a + length l)) rest)
+whole-cons l rest n a w =
+    ap joined (physical-cons l rest n a (w .one))
+    ∙ joined-line (shutLine n a l) (physical (suc n) (suc (a + length l)) rest) (w .kept) (w .ends)
+
+-- ---- a text of such lines
+
+-- every element has the property
+abbrev pub All : {A : Type 0} → (A → Type 0) → List A → Type 0
+All P [] = Unit {0}
+All P (x ∷ xs) = P x × All P xs
+
+pub whole-lines : (ls : List Bytes) (n a : ℕ) → All Whole ls → bytesOf (joined (physical n a (written ls))) ≡ ls
+unfolding written physical joined
+whole-lines [] n a h = refl
+whole-lines (l ∷ ls) n a h =
+    ap bytesOf (whole-cons l (written ls) n a (h .0))
+    ∙ ap (λ (r : List Bytes). l ∷ r) (whole-lines ls (suc n) (suc (a + length l)) (h .1))
+
+pub logical-written : (ls : List Bytes) → All Whole ls → bytesOf (logical (written ls)) ≡ ls
+unfolding logical
+logical-written ls h = whole-lines ls 1 0 h
