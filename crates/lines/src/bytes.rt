@@ -147,7 +147,10 @@ fn store(part: &[u8], buffer: &mut [u8], at: usize)
 // Puts a part into a buffer from an index on. Where it does not fit, nothing changes and the answer is false.
 pub fn copy_into(part: &[u8], buffer: &mut [u8], at: usize) -> bool
     ensures answer { λ r. ⌜ r ≡ leb (at + length (now (part .entry))) (length (now (buffer .entry))) ⌝ }
-    ensures held { λ r. ⌜ now (buffer .exit) ≡ cond (leb (at + length (now (part .entry))) (length (now (buffer .entry)))) (put (now (buffer .entry)) at (now (part .entry))) (now (buffer .entry)) ⌝ }
+    ensures held { λ r. ⌜ now (buffer .exit) ≡
+        cond (leb (at + length (now (part .entry))) (length (now (buffer .entry))))
+        (put (now (buffer .entry)) at (now (part .entry)))
+        (now (buffer .entry)) ⌝ }
 {
     if buffer.len() < at {
         return false;
