@@ -1,5 +1,8 @@
 -- Laws about the definitions of specs/, for the proofs of this crate and of those above it.
 pub mod Bools
+pub mod Comparison
+pub mod Buffers
+pub mod Trimming
 pub mod Slices
 pub mod LineFeeds
 -- UTF-8 and the check of a file

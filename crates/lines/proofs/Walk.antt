@@ -6,7 +6,6 @@ use mathlib.Core.Bool.{true, false}
 use mathlib.Core.Option.{Option}
 use mathlib.Core.List.{List, [], _∷_, _++_}
 use lib.ListN.{length, drop, length-append, drop-of-length-le}
-use lib.Seq.{drop-drop, take-append-seam, drop-append-add}
 use Rattle.lines.specs.Bytes.{Bytes, lineFeeds}
 use Rattle.lines.specs.Lines.{Line, physical, comment, joined}
 use Rattle.lines.specs.Buffers.{filled, put}
@@ -15,6 +14,7 @@ use Rattle.lines.specs.LineSteps.{piece, ends, firstBytes, At, Standing,
 use Rattle.lines.specs.declared.joiner.Cursor.{Cursor}
 use Rattle.lines.specs.declared.joiner.Physical.{Physical}
 use Rattle.lines.specs.declared.joiner.Piece.{Piece}
+use Rattle.lines.proofs.Buffers.{filled-put}
 use Rattle.lines.proofs.Bools.{by-cases}
 use Rattle.lines.proofs.Physicals.{openLine}
 use Rattle.lines.proofs.Joining.{waiting, waiting-start, waiting-ends, waiting-more, waiting-first, joined-comment, piece-comment, piece-length}
@@ -159,10 +159,6 @@ module _ (f : Bytes) (s c : Cursor) (n : ℕ) (w : Walk f s c n) where
       }
 
 -- ---- copying
-
-pub filled-put : (xs p d : Bytes) → put (filled xs d) (length xs) p ≡ filled (xs ++ p) d
-filled-put xs p d =
-    rw (take-append-seam xs (drop (length xs) d), drop-append-add xs (drop (length xs) d) (length p), drop-drop (length p) (length xs) d, length-append xs p)
 
 -- the same walk, with what has been met at the front of the buffer
 pub record Copied (f : Bytes) (s c : Cursor) (n : ℕ) (before now-holds : Bytes) : Type 0 where

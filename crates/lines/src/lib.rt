@@ -6,7 +6,16 @@ mod joiner;
 mod utf8;
 
 pub use bytes::copy_into;
+pub use bytes::is_blank;
 pub use bytes::is_control;
+pub use bytes::is_digit;
+pub use bytes::is_header_byte;
+pub use bytes::is_key_byte;
+pub use bytes::is_letter;
+pub use bytes::same;
+pub use bytes::trim;
+pub use bytes::trim_end;
+pub use bytes::trim_start;
 pub use error::Error;
 pub use file::Check;
 pub use file::check_file;

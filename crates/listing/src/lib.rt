@@ -1,0 +1,110 @@
+// Prints what the check of a file and its reading line by line give.
+use libc::STDOUT_FILENO;
+use lines::Check;
+use lines::Cursor;
+use lines::Error;
+use lines::Next;
+
+// The number of a refusal.
+fn number(e: Error) -> u64 {
+    match e {
+        Error::ShortBuffer => 1,
+        Error::FileTooLong => 2,
+        Error::NotUtf8(_) => 3,
+        Error::ControlByte(_) => 4,
+        Error::LineTooLong(_) => 5,
+    }
+}
+
+// Its place.
+fn place(e: Error) -> usize {
+    match e {
+        Error::ShortBuffer => 0,
+        Error::FileTooLong => 0,
+        Error::NotUtf8(line) => line,
+        Error::ControlByte(line) => line,
+        Error::LineTooLong(line) => line,
+    }
+}
+
+pub fn print(text: &[u8]) {
+    io::write_all(STDOUT_FILENO, text);
+}
+
+pub fn print_number(n: usize) {
+    io::print_decimal(STDOUT_FILENO, n as u64);
+}
+
+pub fn print_refusal(e: Error) {
+    print(b"refused ");
+    io::print_decimal(STDOUT_FILENO, number(e));
+    print(b" at ");
+    print_number(place(e));
+    print(b"\n");
+}
+
+// The first bytes of a buffer, as many as asked where it has them.
+pub fn print_front(buffer: &[u8], count: usize) {
+    if count <= buffer.len() {
+        print(&buffer[0..count]);
+    }
+}
+
+// A line: its number, its length and its bytes, or the first 20 where it has more than `most`.
+fn print_line(first: usize, buffer: &[u8], length: usize, most: usize) {
+    print_number(first);
+    print(b" ");
+    print_number(length);
+    print(b":");
+    if length <= most {
+        print_front(buffer, length);
+    } else {
+        print_front(buffer, 20);
+        print(b"..");
+    }
+    print(b"\n");
+}
+
+enum Step {
+    Go(Cursor),
+    Stop,
+}
+
+// Prints the next line or its refusal.
+fn list_line(file: &[u8], cursor: Cursor, most: usize) -> Step {
+    let mut buffer = [0u8; 4096];
+    match lines::next_line(file, cursor, &mut buffer) {
+        Next::Found {
+            length,
+            first,
+            next,
+        } => {
+            print_line(first, &buffer, length, most);
+            Step::Go(next)
+        }
+        Next::End => Step::Stop,
+        Next::Refused(e) => {
+            print_refusal(e);
+            Step::Stop
+        }
+    }
+}
+
+// No file that is accepted has more lines than bytes.
+fn list_lines(file: &[u8], most: usize) {
+    let mut cursor = Cursor { offset: 0, line: 1 };
+    for _ in 0..65536usize {
+        match list_line(file, cursor, most) {
+            Step::Go(next) => cursor = next,
+            Step::Stop => return,
+        }
+    }
+}
+
+// Prints the refusal of a file, or its logical lines.
+pub fn list(file: &[u8], most: usize) {
+    match lines::check_file(file) {
+        Check::Accepted => list_lines(file, most),
+        Check::Refused(e) => print_refusal(e),
+    }
+}
