@@ -1,5 +1,5 @@
 -- Laws of `same` for a loop over two texts: what is left from an index on is compared by its first bytes.
-use mathlib.Core.Path.{_≡_, refl, ap}
+use mathlib.Core.Path.{_≡_, ap}
 use Prim.Native.Nat.{ℕ, _+_, _≤_, _<_}
 use native.Mathlib.Numerals.{add-one}
 use mathlib.Core.Bool.{true, _&&_}
