@@ -1,4 +1,8 @@
 // Prints what the check of a file and its reading line by line give.
+mod cases;
+
+pub use cases::case;
+pub use cases::long_case;
 use libc::STDOUT_FILENO;
 use lines::Check;
 use lines::Cursor;
