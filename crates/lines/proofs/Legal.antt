@@ -8,11 +8,12 @@ use lib.ListN.{length}
 use lib.Dec.{leb}
 use Rattle.lines.specs.Bytes.{Bytes, isLF, all}
 use Rattle.lines.specs.Utf8.{utf8, well}
-use Rattle.lines.specs.Lines.{Line, physical, comment, continued, closingRun, odd, spaced, follow, joined, logical, written}
+use Rattle.lines.specs.Lines.{Line, physical, comment, continued, closingRun, odd, spaced, joined, logical, written}
 use Rattle.lines.specs.Files.{plain}
 use Rattle.lines.proofs.Bools.{by-cases, and-left, and-right, both, all-append, all-imp}
 use Rattle.lines.proofs.Utf8Laws.{utf8-split, utf8-append, utf8-ascii}
 use Rattle.lines.proofs.Runs.{Spaced, is-spaced, continued-after}
+use Rattle.lines.proofs.Joining.{waiting, joined-comment, joined-line, joined-open}
 use Rattle.lines.proofs.Physicals.{noLF, physical-cons, physical-last, Cut, nothing, last, more, cut}
 use Rattle.lines.proofs.Whole.{All}
 
@@ -115,20 +116,23 @@ module _ (l : Bytes) (h : Legal l) (s : Spaced l) where
     ends = rw (s .now-is, append-assoc (s .front) (0x20 ∷ []) b) (continued-after (s .front) 0x20 b refl ∙ k .ends);
   }
 
-follow-settled : (l : Line) (ls : List Line) → LegalLine l → continued (l .bytes) ≡ true → All SettledLine ls → All SettledLine (follow l ls)
-unfolding follow
-follow-settled l [] h e k = (spaced-settled (l .bytes) h (is-spaced (l .bytes) e), tt)
-follow-settled l (m ∷ ls) h e k = (spaced-then (l .bytes) h (is-spaced (l .bytes) e) (m .bytes) (k .0), k .1)
+waiting-settled : (l : Line) (ls : List Line) → LegalLine l → continued (l .bytes) ≡ true → All SettledLine ls
+    → All SettledLine (waiting (l .number) (spaced (l .bytes)) ls)
+unfolding waiting
+waiting-settled l [] h e k = (spaced-settled (l .bytes) h (is-spaced (l .bytes) e), tt)
+waiting-settled l (m ∷ ls) h e k = (spaced-then (l .bytes) h (is-spaced (l .bytes) e) (m .bytes) (k .0), k .1)
 
 pub joined-settled : (ls : List Line) → All LegalLine ls → All SettledLine (joined ls)
 unfolding joined
 joined-settled [] h = tt
 joined-settled (l ∷ ls) h =
     let ih : All SettledLine (joined ls) = joined-settled ls (h .1) in
-    by-cases (comment (l .bytes)) (λ c. rw c ih)
-    (λ c. by-cases (continued (l .bytes))
-    (λ e. rw (c, e) (follow-settled l (joined ls) (h .0) e ih))
-    (λ e. rw (c, e) (record { legal = h .0; ends = e }, ih)))
+    by-cases (comment (l .bytes))
+    (λ c. subst (All SettledLine) (sym (joined-comment l ls c)) ih)
+    (λ c.
+    by-cases (continued (l .bytes))
+    (λ e. subst (All SettledLine) (sym (joined-open l ls c e)) (waiting-settled l (joined ls) (h .0) e ih))
+    (λ e. subst (All SettledLine) (sym (joined-line l ls c e)) (record { legal = h .0; ends = e }, ih)))
 
 pub logical-settled : (f : Bytes) → utf8 f ≡ true → all plain f ≡ true → All SettledLine (logical f)
 unfolding logical

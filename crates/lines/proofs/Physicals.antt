@@ -4,11 +4,12 @@ use Prim.Native.Nat.{ℕ, suc, _+_, _-_, _≤_, _<_}
 use native.Mathlib.Omega.{arith}
 use native.Mathlib.Nat.{add-zero}
 use native.Mathlib.Numerals.{add-one}
-use mathlib.Core.Bool.{Bool, true, false, not}
+use mathlib.Core.Bool.{Bool, true, false, not, _||_}
 use mathlib.Core.Option.{none, some}
 use mathlib.Core.List.{[], _∷_, _++_}
 use lib.ListN.{length, take, drop, getD, take-append-drop, drop-of-length-le}
 use lib.Seq.{take-all, length-take-le, drop-cons}
+use lib.Dec.{eqb}
 use borrow.Author.Tests.{eqb-true}
 use Rattle.lines.specs.Bytes.{Bytes, isLF, all, lineFeeds}
 use Rattle.lines.specs.Lines.{Line, onto, physical, comment}
@@ -134,8 +135,13 @@ module _ (f : Bytes) (i : ℕ) where
 
 -- ---- comments
 
+-- the first byte decides, 0 standing for none
+pub comment-first : (l : Bytes) → comment l ≡ (eqb (getD l 0 0) 0x23 || eqb (getD l 0 0) 0x3B)
+unfolding comment
+comment-first [] = refl
+comment-first (b ∷ bs) = refl
+
 -- the LF behind a line does not make it a comment
 pub comment-line : (l rest : Bytes) → comment (l ++ 0x0A ∷ rest) ≡ comment l
-unfolding comment
-comment-line [] rest = refl
-comment-line (b ∷ bs) rest = refl
+comment-line [] rest = comment-first (0x0A ∷ rest) ∙ sym (comment-first [])
+comment-line (b ∷ bs) rest = comment-first (b ∷ bs ++ 0x0A ∷ rest) ∙ sym (comment-first (b ∷ bs))

@@ -7,10 +7,11 @@ use mathlib.Core.Bool.{true, not}
 use mathlib.Core.List.{List, [], _∷_, _++_}
 use lib.ListN.{length, length-append}
 use Rattle.lines.specs.Bytes.{Bytes, isLF, all}
-use Rattle.lines.specs.Lines.{Line, physical, comment, continued, spaced, follow, joined, logical}
+use Rattle.lines.specs.Lines.{Line, physical, comment, continued, spaced, joined, logical}
 use Rattle.lines.specs.Files.{endsOpen, size}
 use Rattle.lines.proofs.Bools.{by-cases, and-left, and-right}
 use Rattle.lines.proofs.Runs.{spaced-length}
+use Rattle.lines.proofs.Joining.{waiting, joined-comment, joined-line, joined-open}
 use Rattle.lines.proofs.Physicals.{noLF, physical-cons, physical-last, Cut, nothing, last, more, cut}
 
 -- the bytes of lines, each with its LF
@@ -52,18 +53,22 @@ physical-total f n a = total-cut n a f (cut f)
 
 -- ---- logical lines
 
-follow-total : (l : Line) (ls : List Line) → total (follow l ls) ≤ suc (length (l .bytes)) + total ls
-unfolding follow total
-follow-total l [] = omega (arith, spaced-length (l .bytes))
-follow-total l (k ∷ ks) = omega (arith, spaced-length (l .bytes), length-append (spaced (l .bytes)) (k .bytes))
+waiting-total : (m : ℕ) (a : Bytes) (ls : List Line) → total (waiting m a ls) ≤ suc (length a) + total ls
+unfolding waiting total
+waiting-total m a [] = omega arith
+waiting-total m a (k ∷ ks) = omega (arith, length-append a (k .bytes))
 
 pub joined-total : (ls : List Line) → total (joined ls) ≤ total ls
 unfolding joined total
 joined-total [] = omega arith
 joined-total (l ∷ ls) =
     let ih : total (joined ls) ≤ total ls = joined-total ls in
-    by-cases (comment (l .bytes)) (λ c. rw c (omega arith))
-    (λ c. by-cases (continued (l .bytes)) (λ e. rw (c, e) (omega (arith, follow-total l (joined ls)))) (λ e. rw (c, e) (omega arith)))
+    by-cases (comment (l .bytes))
+    (λ c. omega (arith, ap total (joined-comment l ls c)))
+    (λ c.
+    by-cases (continued (l .bytes))
+    (λ e. omega (arith, ap total (joined-open l ls c e), waiting-total (l .number) (spaced (l .bytes)) (joined ls), spaced-length (l .bytes)))
+    (λ e. omega (arith, ap total (joined-line l ls c e))))
 
 pub logical-total : (f : Bytes) → total (logical f) ≤ size f
 unfolding logical
