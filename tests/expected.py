@@ -1,5 +1,5 @@
 #!/usr/bin/env python3
-"""Writes what the programs `logical` and `line_cases` are to print.
+"""Writes what the programs `logical`, `line_cases` and `check_cases` are to print.
 
 usage: expected.py [--check]      (--check: only compare with the files that stand)
 
@@ -111,7 +111,7 @@ KeyThree=value 3\\
 '''.encode()
 
 
-# ---- the cases, in the order of crates/line_cases
+# ---- the cases: a name and a file, in the order of crates/line_cases
 
 FILES = [
     # bench
@@ -167,6 +167,10 @@ FILES = [
     ('4096 blanks', b' ' * 4096),
     ('4097 blanks', b' ' * 4097),
     ('a long line in line 2', b'x\n' + b'a' * 4097),
+]
+
+# the same, in the order of crates/check_cases
+CHECKS = [
     # sizes
     ('65534 bytes without LF', b'#' * 65530 + b'\nK=1'),
     ('65535 bytes without LF', b'#' * 65531 + b'\nK=1'),
@@ -303,18 +307,30 @@ HAND_EXAMPLE = '''\
 '''.encode()
 
 
+def told(cases, print_case, by_hand):
+    """The output of the cases; those with a result made by hand are held to it."""
+    out = b''
+    for name, *case in cases:
+        printed = print_case(*case)
+        assert by_hand.pop(name, printed) == printed, name
+        out += name.encode() + b'\n' + printed
+    return out
+
+
 def main():
-    assert listing(EXAMPLE, 4096) == HAND_EXAMPLE
-    cases = b''
-    for name, file in FILES:
-        assert HAND_FILES.pop(name, out := listing(file, 200)) == out, name
-        cases += name.encode() + b'\n' + out
-    for name, *call in CALLS:
-        assert HAND_CALLS.pop(name, out := one_call(*call)) == out, name
-        cases += name.encode() + b'\n' + out
+    def listed(file):
+        return listing(file, 200)
+
+    outputs = {
+        'logical/stdin': EXAMPLE,
+        'logical/stdout': listing(EXAMPLE, 4096),
+        'line_cases/stdout': told(FILES, listed, HAND_FILES) + told(CALLS, one_call, HAND_CALLS),
+        'check_cases/stdout': told(CHECKS, listed, HAND_FILES),
+    }
+    assert outputs['logical/stdout'] == HAND_EXAMPLE
     assert not HAND_FILES and not HAND_CALLS
     same = True
-    for path, content in (('logical/stdin', EXAMPLE), ('logical/stdout', HAND_EXAMPLE), ('line_cases/stdout', cases)):
+    for path, content in outputs.items():
         path = os.path.join(ROOT, 'crates', path)
         if '--check' in sys.argv:
             same = same and open(path, 'rb').read() == content

@@ -1,5 +1,5 @@
 // Single calls: the cursor and the buffer.
-use crate::case::call;
+use crate::call::call;
 
 const LARGEST: usize = 18446744073709551615;
 

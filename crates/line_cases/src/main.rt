@@ -1,6 +1,6 @@
 // Cases of lines: each prints its name and what the joiner gives. tests/expected.py has the same list.
+mod call;
 mod calls;
-mod case;
 mod files;
 
 fn main() {
@@ -9,10 +9,6 @@ fn main() {
     files::joining();
     files::backslashes();
     files::lengths();
-    files::sizes();
-    files::control_bytes();
-    files::not_utf8();
-    files::well_formed();
     calls::cursors();
     calls::buffers();
     calls::long_lines();

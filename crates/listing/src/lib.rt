@@ -1,4 +1,10 @@
 // Prints what the check of a file and its reading line by line give.
+mod cases;
+
+pub use cases::case;
+pub use cases::long_case;
+ghost use mathlib.Core.Path.{_≡_};
+ghost use Rattle.lines.specs.Answers.{numberOf, placeOf};
 use libc::STDOUT_FILENO;
 use lines::Check;
 use lines::Cursor;
@@ -6,7 +12,9 @@ use lines::Error;
 use lines::Next;
 
 // The number of a refusal.
-fn number(e: Error) -> u64 {
+fn number(e: Error) -> u64
+    ensures { λ r. ⌜ r ≡ numberOf e ⌝ }
+{
     match e {
         Error::ShortBuffer => 1,
         Error::FileTooLong => 2,
@@ -17,7 +25,9 @@ fn number(e: Error) -> u64 {
 }
 
 // Its place.
-fn place(e: Error) -> usize {
+fn place(e: Error) -> usize
+    ensures { λ r. ⌜ r ≡ placeOf e ⌝ }
+{
     match e {
         Error::ShortBuffer => 0,
         Error::FileTooLong => 0,

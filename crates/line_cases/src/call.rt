@@ -1,33 +1,9 @@
-// The forms of a case.
+// The form of a single call.
 use lines::Cursor;
 use lines::Next;
 use listing::print;
 use listing::print_front;
 use listing::print_number;
-
-// A whole file. Lines of more than 200 bytes are cut.
-pub fn case(name: &[u8], file: &[u8]) {
-    print(name);
-    print(b"\n");
-    listing::list(file, 200);
-}
-
-// A file of a head, one byte up to the index `end`, and a tail.
-pub fn long_case(name: &[u8], head: &[u8], byte: u8, end: usize, tail: &[u8]) {
-    let mut file = [byte; 65536];
-    case_in(name, &mut file, head, end, tail);
-}
-
-fn case_in(name: &[u8], file: &mut [u8], head: &[u8], end: usize, tail: &[u8]) {
-    lines::copy_into(head, file, 0);
-    lines::copy_into(tail, file, end);
-    if end <= file.len() {
-        if tail.len() <= file.len() - end {
-            let size = end + tail.len();
-            case(name, &file[0..size]);
-        }
-    }
-}
 
 // One call at a cursor, with the first `size` bytes of a buffer of dots.
 pub fn call(name: &[u8], file: &[u8], offset: usize, line: usize, size: usize) {
