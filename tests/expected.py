@@ -30,6 +30,18 @@ def refusal(file):
     return None
 
 
+def is_utf8(text):
+    try:
+        text.decode('utf-8')
+    except UnicodeDecodeError:
+        return False
+    return True
+
+
+def longest_start(text):
+    return max(n for n in range(len(text) + 1) if is_utf8(text[:n]))
+
+
 def is_continued(line):
     return (len(line) - len(line.rstrip(b'\\'))) % 2 == 1
 
@@ -186,6 +198,10 @@ CHECKS = [
     ('control in a comment', b'a\n#\x01\n'),
     ('the first of two control bytes', b'a\n\x02\n\x03'),
     ('control in line 1, not UTF-8 in line 3', b'\x01\nb\n\xff\n'),
+]
+
+# the same, with the longest well-formed start
+TEXTS = [
     # not UTF-8
     ('C0 80', b'a\n\xc0\x80\n'),
     ('C1 BF', b'\xc1\xbf\n'),
@@ -275,11 +291,15 @@ HAND_FILES = {
     '65535 bytes with LF': b'2 3:K=1\n',
     'control 0D': b'refused 4 at 2\n',
     'control in line 1, not UTF-8 in line 3': b'refused 3 at 3\n',
-    'ED A0 80': b'refused 3 at 3\n',
-    'broken by LF': b'refused 3 at 2\n',
-    'cut off F0 9F 98': b'refused 3 at 2\n',
-    'U+10FFFF': b'1 4:\xf4\x8f\xbf\xbf\n',
-    'EF BB BF': b'1 5:\xef\xbb\xbf#x\n',
+}
+
+HAND_TEXTS = {
+    'ED A0 80': b'start 4\nrefused 3 at 3\n',
+    'broken by LF': b'start 2\nrefused 3 at 2\n',
+    'cut off F0 9F 98': b'start 2\nrefused 3 at 2\n',
+    'FF': b'start 3\nrefused 3 at 2\n',
+    'U+10FFFF': b'start 5\n1 4:\xf4\x8f\xbf\xbf\n',
+    'EF BB BF': b'start 6\n1 5:\xef\xbb\xbf#x\n',
 }
 
 HAND_CALLS = {
@@ -321,14 +341,17 @@ def main():
     def listed(file):
         return listing(file, 200)
 
+    def started(file):
+        return b'start %d\n' % longest_start(file) + listed(file)
+
     outputs = {
         'logical/stdin': EXAMPLE,
         'logical/stdout': listing(EXAMPLE, 4096),
         'line_cases/stdout': told(FILES, listed, HAND_FILES) + told(CALLS, one_call, HAND_CALLS),
-        'check_cases/stdout': told(CHECKS, listed, HAND_FILES),
+        'check_cases/stdout': told(CHECKS, listed, HAND_FILES) + told(TEXTS, started, HAND_TEXTS),
     }
     assert outputs['logical/stdout'] == HAND_EXAMPLE
-    assert not HAND_FILES and not HAND_CALLS
+    assert not HAND_FILES and not HAND_TEXTS and not HAND_CALLS
     same = True
     for path, content in outputs.items():
         path = os.path.join(ROOT, 'crates', path)

@@ -2,6 +2,7 @@
 // tests/expected.py has the same list.
 use listing::case;
 use listing::long_case;
+use listing::text_case;
 
 // Files of 65,535 bytes and one more or less.
 fn sizes() {
@@ -29,38 +30,38 @@ fn control_bytes() {
 
 // Texts that are not UTF-8.
 fn not_utf8() {
-    case(b"C0 80", b"a\n\xC0\x80\n");
-    case(b"C1 BF", b"\xC1\xBF\n");
-    case(b"E0 80 80", b"a\n\xE0\x80\x80\n");
-    case(b"E0 9F BF", b"\xE0\x9F\xBF\n");
-    case(b"F0 80 80 80", b"a\n\xF0\x80\x80\x80\n");
-    case(b"F0 8F BF BF", b"\xF0\x8F\xBF\xBF\n");
-    case(b"ED A0 80", b"a\nb\n\xED\xA0\x80\n");
-    case(b"ED BF BF", b"\xED\xBF\xBF\n");
-    case(b"F5", b"a\n\xF5\x80\x80\x80\n");
-    case(b"F4 90 80 80", b"a\n\xF4\x90\x80\x80\n");
-    case(b"lone 80", b"a\n\x80\n");
-    case(b"lone BF", b"\xBF\n");
-    case(b"FF", b"a\nb\xFF\n");
-    case(b"cut off C3", b"a\n\xC3");
-    case(b"cut off E2 82", b"a\n\xE2\x82");
-    case(b"cut off F0 9F 98", b"a\n\xF0\x9F\x98");
-    case(b"broken by LF", b"a\n\xE2\x82\nb\n");
-    case(b"broken by a letter", b"\xC3a\n");
-    case(b"bad byte in a comment", b"a\n#\xFF\nb\n");
+    text_case(b"C0 80", b"a\n\xC0\x80\n");
+    text_case(b"C1 BF", b"\xC1\xBF\n");
+    text_case(b"E0 80 80", b"a\n\xE0\x80\x80\n");
+    text_case(b"E0 9F BF", b"\xE0\x9F\xBF\n");
+    text_case(b"F0 80 80 80", b"a\n\xF0\x80\x80\x80\n");
+    text_case(b"F0 8F BF BF", b"\xF0\x8F\xBF\xBF\n");
+    text_case(b"ED A0 80", b"a\nb\n\xED\xA0\x80\n");
+    text_case(b"ED BF BF", b"\xED\xBF\xBF\n");
+    text_case(b"F5", b"a\n\xF5\x80\x80\x80\n");
+    text_case(b"F4 90 80 80", b"a\n\xF4\x90\x80\x80\n");
+    text_case(b"lone 80", b"a\n\x80\n");
+    text_case(b"lone BF", b"\xBF\n");
+    text_case(b"FF", b"a\nb\xFF\n");
+    text_case(b"cut off C3", b"a\n\xC3");
+    text_case(b"cut off E2 82", b"a\n\xE2\x82");
+    text_case(b"cut off F0 9F 98", b"a\n\xF0\x9F\x98");
+    text_case(b"broken by LF", b"a\n\xE2\x82\nb\n");
+    text_case(b"broken by a letter", b"\xC3a\n");
+    text_case(b"bad byte in a comment", b"a\n#\xFF\nb\n");
 }
 
 // The first and last characters of each length.
 fn well_formed() {
-    case(b"U+0080", b"\xC2\x80\n");
-    case(b"U+07FF", b"\xDF\xBF\n");
-    case(b"U+0800", b"\xE0\xA0\x80\n");
-    case(b"U+D7FF", b"\xED\x9F\xBF\n");
-    case(b"U+E000", b"\xEE\x80\x80\n");
-    case(b"U+FFFF", b"\xEF\xBF\xBF\n");
-    case(b"U+10000", b"\xF0\x90\x80\x80\n");
-    case(b"U+10FFFF", b"\xF4\x8F\xBF\xBF\n");
-    case(b"EF BB BF", b"\xEF\xBB\xBF#x\n");
+    text_case(b"U+0080", b"\xC2\x80\n");
+    text_case(b"U+07FF", b"\xDF\xBF\n");
+    text_case(b"U+0800", b"\xE0\xA0\x80\n");
+    text_case(b"U+D7FF", b"\xED\x9F\xBF\n");
+    text_case(b"U+E000", b"\xEE\x80\x80\n");
+    text_case(b"U+FFFF", b"\xEF\xBF\xBF\n");
+    text_case(b"U+10000", b"\xF0\x90\x80\x80\n");
+    text_case(b"U+10FFFF", b"\xF4\x8F\xBF\xBF\n");
+    text_case(b"EF BB BF", b"\xEF\xBB\xBF#x\n");
 }
 
 fn main() {

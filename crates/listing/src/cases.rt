@@ -1,10 +1,20 @@
 // A case: its name, and what reading its file gives.
 use crate::list;
 use crate::print;
+use crate::print_number;
 
 // A whole file. Lines of more than 200 bytes are cut.
 pub fn case(name: &[u8], file: &[u8]) {
     print(name);
+    print(b"\n");
+    list(file, 200);
+}
+
+// The same, with the length of the longest well-formed start first.
+pub fn text_case(name: &[u8], file: &[u8]) {
+    print(name);
+    print(b"\nstart ");
+    print_number(lines::well_formed_length(file));
     print(b"\n");
     list(file, 200);
 }

@@ -3,39 +3,12 @@ mod cases;
 
 pub use cases::case;
 pub use cases::long_case;
-ghost use mathlib.Core.Path.{_≡_};
-ghost use Rattle.lines.specs.Answers.{numberOf, placeOf};
+pub use cases::text_case;
 use libc::STDOUT_FILENO;
 use lines::Check;
 use lines::Cursor;
 use lines::Error;
 use lines::Next;
-
-// The number of a refusal.
-fn number(e: Error) -> u64
-    ensures { λ r. ⌜ r ≡ numberOf e ⌝ }
-{
-    match e {
-        Error::ShortBuffer => 1,
-        Error::FileTooLong => 2,
-        Error::NotUtf8(_) => 3,
-        Error::ControlByte(_) => 4,
-        Error::LineTooLong(_) => 5,
-    }
-}
-
-// Its place.
-fn place(e: Error) -> usize
-    ensures { λ r. ⌜ r ≡ placeOf e ⌝ }
-{
-    match e {
-        Error::ShortBuffer => 0,
-        Error::FileTooLong => 0,
-        Error::NotUtf8(line) => line,
-        Error::ControlByte(line) => line,
-        Error::LineTooLong(line) => line,
-    }
-}
 
 pub fn print(text: &[u8]) {
     io::write_all(STDOUT_FILENO, text);
@@ -47,9 +20,9 @@ pub fn print_number(n: usize) {
 
 pub fn print_refusal(e: Error) {
     print(b"refused ");
-    io::print_decimal(STDOUT_FILENO, number(e));
+    print_number(e.number());
     print(b" at ");
-    print_number(place(e));
+    print_number(e.place());
     print(b"\n");
 }
 
@@ -81,15 +54,14 @@ enum Step {
 }
 
 // Prints the next line or its refusal.
-fn list_line(file: &[u8], cursor: Cursor, most: usize) -> Step {
-    let mut buffer = [0u8; 4096];
-    match lines::next_line(file, cursor, &mut buffer) {
+fn list_line(file: &[u8], cursor: Cursor, buffer: &mut [u8], most: usize) -> Step {
+    match lines::next_line(file, cursor, buffer) {
         Next::Found {
             length,
             first,
             next,
         } => {
-            print_line(first, &buffer, length, most);
+            print_line(first, buffer, length, most);
             Step::Go(next)
         }
         Next::End => Step::Stop,
@@ -101,10 +73,10 @@ fn list_line(file: &[u8], cursor: Cursor, most: usize) -> Step {
 }
 
 // No file that is accepted has more lines than bytes.
-fn list_lines(file: &[u8], most: usize) {
+fn list_lines(file: &[u8], buffer: &mut [u8], most: usize) {
     let mut cursor = Cursor { offset: 0, line: 1 };
     for _ in 0..65536usize {
-        match list_line(file, cursor, most) {
+        match list_line(file, cursor, buffer, most) {
             Step::Go(next) => cursor = next,
             Step::Stop => return,
         }
@@ -113,8 +85,9 @@ fn list_lines(file: &[u8], most: usize) {
 
 // Prints the refusal of a file, or its logical lines.
 pub fn list(file: &[u8], most: usize) {
+    let mut buffer = [0u8; 4096];
     match lines::check_file(file) {
-        Check::Accepted => list_lines(file, most),
+        Check::Accepted => list_lines(file, &mut buffer, most),
         Check::Refused(e) => print_refusal(e),
     }
 }
