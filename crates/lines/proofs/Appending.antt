@@ -9,13 +9,13 @@ use mathlib.Core.List.{List, _∷_, _++_, append-assoc}
 use lib.ListN.{length, length-append}
 use Rattle.lines.specs.Bytes.{Bytes, lineFeeds}
 use Rattle.lines.specs.Lines.{Line, physical}
-use Rattle.lines.specs.Files.{endsOpen}
+use Rattle.lines.specs.Files.{unterminated}
 use Rattle.lines.proofs.Bools.{impossible}
 use Rattle.lines.proofs.LineFeeds.{lineFeeds-append}
 use Rattle.lines.proofs.Physicals.{shutLine, physical-cons, lineFeeds-none, Cut, nothing, last, more, cut}
 use Rattle.lines.proofs.Totals.{open-last, open-more}
 
-append-cut : (n a : ℕ) (p : Bytes) → Cut p → (q : Bytes) → endsOpen p ≡ false
+append-cut : (n a : ℕ) (p : Bytes) → Cut p → (q : Bytes) → unterminated p ≡ false
     → physical n a (p ++ q) ≡ physical n a p ++ physical (n + lineFeeds p) (a + length p) q
 unfolding physical lineFeeds
 append-cut n a p nothing q h = rw (add-zero n, add-zero a)
@@ -31,6 +31,6 @@ append-cut n a p (more l rest k c) q h =
     ∙ ap₂ (λ (x y : ℕ). shutLine n a l ∷ (physical (suc n) (suc (a + length l)) rest ++ physical x y q)) i j
     ∙ ap (λ (r : List Line). r ++ physical (n + lineFeeds (l ++ 0x0A ∷ rest)) (a + length (l ++ 0x0A ∷ rest)) q) (sym (physical-cons l rest n a k))
 
-pub physical-append : (p q : Bytes) (n a : ℕ) → endsOpen p ≡ false
+pub physical-append : (p q : Bytes) (n a : ℕ) → unterminated p ≡ false
     → physical n a (p ++ q) ≡ physical n a p ++ physical (n + lineFeeds p) (a + length p) q
 physical-append p q n a h = append-cut n a p (cut p) q h

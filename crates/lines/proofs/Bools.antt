@@ -1,11 +1,11 @@
--- Bool tests taken apart and put together; the laws of `all` and `same`.
+-- Bool tests taken apart and put together; the laws of `all`, `any` and `equal`.
 use mathlib.Core.Path.{_≡_, refl, sym, ap, _∙_}
 use Prim.Native.Nat.{ℕ}
 use mathlib.Core.Bool.{Bool, true, false, not, _&&_, _||_, false≢true}
 use mathlib.Core.List.{[], _∷_, _++_}
 use lib.Dec.{eqb}
 use borrow.Author.Tests.{eqb-true, eq-eqb}
-use Rattle.lines.specs.Bytes.{Bytes, all, same}
+use Rattle.lines.specs.Bytes.{Bytes, all, any, equal}
 
 -- ---- case analysis
 
@@ -70,17 +70,23 @@ unfolding all
 all-imp p q f [] h = refl
 all-imp p q f (b ∷ bs) h = both (q b) (all q bs) (f b (and-left (p b) (all p bs) h)) (all-imp p q f bs (and-right (p b) (all p bs) h))
 
--- ---- same
+-- no byte passes where every byte fails
+pub any-all : (p : ℕ → Bool) (l : Bytes) → any p l ≡ not (all (λ b. not (p b)) l)
+unfolding any all
+any-all p [] = refl
+any-all p (b ∷ bs) = by-cases (p b) (λ e. rw e) (λ e. rw e (any-all p bs))
 
-pub same-eq : (a b : Bytes) → same a b ≡ true → a ≡ b
-unfolding same
+-- ---- equal
+
+pub same-eq : (a b : Bytes) → equal a b ≡ true → a ≡ b
+unfolding equal
 same-eq [] [] e = refl
 same-eq [] (c ∷ cs) e = impossible e
 same-eq (b ∷ bs) [] e = impossible e
 same-eq (b ∷ bs) (c ∷ cs) e =
-    rw (eqb-true b c (and-left (eqb b c) (same bs cs) e), same-eq bs cs (and-right (eqb b c) (same bs cs) e))
+    rw (eqb-true b c (and-left (eqb b c) (equal bs cs) e), same-eq bs cs (and-right (eqb b c) (equal bs cs) e))
 
-pub same-refl : (a : Bytes) → same a a ≡ true
-unfolding same
+pub same-refl : (a : Bytes) → equal a a ≡ true
+unfolding equal
 same-refl [] = refl
-same-refl (b ∷ bs) = both (eqb b b) (same bs bs) (eq-eqb b b refl) (same-refl bs)
+same-refl (b ∷ bs) = both (eqb b b) (equal bs bs) (eq-eqb b b refl) (same-refl bs)

@@ -6,18 +6,18 @@ use mathlib.Core.Bool.{true, _&&_}
 use lib.ListN.{length, drop, getD, drop-of-length-le}
 use lib.Seq.{drop-cons}
 use lib.Dec.{eqb}
-use Rattle.lines.specs.Bytes.{Bytes, same}
+use Rattle.lines.specs.Bytes.{Bytes, equal}
 use Rattle.lines.proofs.Bools.{same-eq}
 
-pub same-length : (a b : Bytes) → same a b ≡ true → length a ≡ length b
+pub same-length : (a b : Bytes) → equal a b ≡ true → length a ≡ length b
 same-length a b e = ap length (same-eq a b e)
 
 -- the bytes at an index decide, or what comes after them
 pub same-here : (a b : Bytes) (i : ℕ) → i < length a → i < length b
-    → same (drop i a) (drop i b) ≡ (eqb (getD a i 0) (getD b i 0) && same (drop (i + 1) a) (drop (i + 1) b))
-unfolding same
+    → equal (drop i a) (drop i b) ≡ (eqb (getD a i 0) (getD b i 0) && equal (drop (i + 1) a) (drop (i + 1) b))
+unfolding equal
 same-here a b i h k = rw (add-one, drop-cons a i 0 h, drop-cons b i 0 k)
 
-pub same-done : (a b : Bytes) (i : ℕ) → length a ≤ i → length b ≤ i → same (drop i a) (drop i b) ≡ true
-unfolding same
+pub same-done : (a b : Bytes) (i : ℕ) → length a ≤ i → length b ≤ i → equal (drop i a) (drop i b) ≡ true
+unfolding equal
 same-done a b i h k = rw (drop-of-length-le a h, drop-of-length-le b k)

@@ -10,7 +10,7 @@ use lib.Dec.{ltb}
 use borrow.Author.Tests.{ltb-true, ltb-false}
 use Rattle.lines.specs.Bytes.{Bytes, lineFeeds}
 use Rattle.lines.specs.Lines.{physical, comment}
-use Rattle.lines.specs.Cursors.{stretch}
+use Rattle.lines.specs.Cursors.{bytesBetween}
 use Rattle.lines.specs.LineSteps.{lineLength, At, Onward, PhysicalAt}
 use Rattle.lines.specs.declared.joiner.Cursor.{Cursor}
 use Rattle.lines.specs.declared.joiner.Physical.{Physical}
@@ -18,17 +18,17 @@ use Rattle.lines.proofs.Bools.{by-cases}
 use Rattle.lines.proofs.LineFeeds.{lineFeeds-append, lineFeeds-length}
 use Rattle.lines.proofs.Physicals.{lineFeeds-none, lineLength-le, line-noLF, line-then, line-alone, physical-shut, physical-open, comment-line}
 
-pub stretch-length : (a e : ℕ) (f : Bytes) → e ≤ length f → length (stretch a e f) ≡ e - a
+pub stretch-length : (a e : ℕ) (f : Bytes) → e ≤ length f → length (bytesBetween a e f) ≡ e - a
 stretch-length a e f h = length-take-le (e - a) (drop a f) (simp length-drop (omega arith))
 
-pub stretch-append : (a b e : ℕ) (f : Bytes) → a ≤ b → b ≤ e → stretch a e f ≡ stretch a b f ++ stretch b e f
+pub stretch-append : (a b e : ℕ) (f : Bytes) → a ≤ b → b ≤ e → bytesBetween a e f ≡ bytesBetween a b f ++ bytesBetween b e f
 stretch-append a b e f h k =
     let s : e - a ≡ (b - a) + (e - b) = omega arith in
     let d : a + (b - a) ≡ b = omega arith in
     ap (λ (n : ℕ). take n (drop a f)) s ∙ take-add (b - a) (e - b) (drop a f)
-    ∙ ap (λ (r : Bytes). stretch a b f ++ take (e - b) r) (drop-drop (b - a) a f ∙ ap (λ (n : ℕ). drop n f) d)
+    ∙ ap (λ (r : Bytes). bytesBetween a b f ++ take (e - b) r) (drop-drop (b - a) a f ∙ ap (λ (n : ℕ). drop n f) d)
 
-stretch-none : (a : ℕ) (f : Bytes) → stretch a a f ≡ []
+stretch-none : (a : ℕ) (f : Bytes) → bytesBetween a a f ≡ []
 stretch-none a f = let e : a - a ≡ 0 = omega arith in rw e
 
 module _ (f : Bytes) where
@@ -45,7 +45,7 @@ module _ (f : Bytes) where
         ∙ omega (
           arith,
           h .counted,
-          lineFeeds-append (stretch (c .offset) (d .offset) f) (stretch (d .offset) (e .offset) f),
+          lineFeeds-append (bytesBetween (c .offset) (d .offset) f) (bytesBetween (d .offset) (e .offset) f),
           ap lineFeeds (stretch-append (c .offset) (d .offset) (e .offset) f (h .onward) (k .onward)),
         );
   }
@@ -53,11 +53,11 @@ module _ (f : Bytes) where
   -- the line number stays at most the offset and one
   pub onward-number : (c d : Cursor) → c .line ≤ c .offset + 1 → Onward f c d → d .line ≤ d .offset + 1
   onward-number c d h k =
-      omega (arith, k .counted, k .onward, lineFeeds-length (stretch (c .offset) (d .offset) f), stretch-length (c .offset) (d .offset) f (k .inside))
+      omega (arith, k .counted, k .onward, lineFeeds-length (bytesBetween (c .offset) (d .offset) f), stretch-length (c .offset) (d .offset) f (k .inside))
 
 -- the physical line at a cursor, by the offset where it ends
 module _ (f : Bytes) (c : Cursor) (e : ℕ) (at : At f c) (is : e ≡ c .offset + lineLength (drop (c .offset) f)) where
-  line-is : take (lineLength (drop (c .offset) f)) (drop (c .offset) f) ≡ stretch (c .offset) e f
+  line-is : take (lineLength (drop (c .offset) f)) (drop (c .offset) f) ≡ bytesBetween (c .offset) e f
   line-is = let s : lineLength (drop (c .offset) f) ≡ e - c .offset = omega arith in ap (λ (n : ℕ). take n (drop (c .offset) f)) s
 
   left : length (drop (c .offset) f) ≡ length f - c .offset
@@ -72,15 +72,15 @@ module _ (f : Bytes) (c : Cursor) (e : ℕ) (at : At f c) (is : e ≡ c .offset 
       let p : c .offset + suc m ≡ e + 1 = omega arith in
       let n : suc (c .line) ≡ c .line + 1 = omega arith in
       let w : e + 1 - c .offset ≡ m + 1 = omega arith in
-      let tk : stretch (c .offset) (e + 1) f ≡ take m (drop (c .offset) f) ++ (0x0A ∷ []) =
+      let tk : bytesBetween (c .offset) (e + 1) f ≡ take m (drop (c .offset) f) ++ (0x0A ∷ []) =
       ap (λ (j : ℕ). take j (drop (c .offset) f)) w ∙ take-add m 1 (drop (c .offset) f)
       ∙ ap (λ (r : Bytes). take m (drop (c .offset) f) ++ take 1 r) (line-then (drop (c .offset) f) k) in
-      let feeds : lineFeeds (stretch (c .offset) (e + 1) f) ≡ 1 =
+      let feeds : lineFeeds (bytesBetween (c .offset) (e + 1) f) ≡ 1 =
       ap lineFeeds tk ∙ lineFeeds-append (take m (drop (c .offset) f)) (0x0A ∷ [])
       ∙ omega (arith, lineFeeds-none (take m (drop (c .offset) f)) (line-noLF (drop (c .offset) f))) in
       let len : length (take m (drop (c .offset) f)) ≡ m = length-take-le m (drop (c .offset) f) (lineLength-le (drop (c .offset) f)) in
       record {
-        shut = some (e + 1);
+        end = some (e + 1);
         first =
             physical-shut (drop (c .offset) f) (c .line) (c .offset) k
             ∙ rw (len, o, n, line-is, drop-drop (suc m) (c .offset) f, p);
@@ -98,12 +98,12 @@ module _ (f : Bytes) (c : Cursor) (e : ℕ) (at : At f c) (is : e ≡ c .offset 
   at-open h =
       let m : ℕ = lineLength (drop (c .offset) f) in
       let k : length (drop (c .offset) f) ≤ m = omega (arith, left) in
-      let all-of : stretch (c .offset) e f ≡ drop (c .offset) f = sym line-is ∙ line-alone (drop (c .offset) f) k in
+      let all-of : bytesBetween (c .offset) e f ≡ drop (c .offset) f = sym line-is ∙ line-alone (drop (c .offset) f) k in
       let none-left : drop e f ≡ [] = drop-of-length-le f h in
-      let feeds : lineFeeds (stretch (c .offset) e f) ≡ 0 = ap lineFeeds (sym line-is) ∙ lineFeeds-none (take m (drop (c .offset) f)) (line-noLF (drop (c .offset) f)) in
+      let feeds : lineFeeds (bytesBetween (c .offset) e f) ≡ 0 = ap lineFeeds (sym line-is) ∙ lineFeeds-none (take m (drop (c .offset) f)) (line-noLF (drop (c .offset) f)) in
       let top : e ≤ length f = omega (arith, left, lineLength-le (drop (c .offset) f), at .inside) in
       record {
-        shut = none;
+        end = none;
         first = physical-open (drop (c .offset) f) (c .line) (c .offset) (omega (arith, left, at .inside)) k ∙ rw (all-of, none-left) (unfold physical in refl);
         mark = ap comment all-of;
         ended = omega arith;

@@ -9,19 +9,20 @@ use lib.ListN.{length, take, drop, getD, length-drop, take-append-drop}
 use lib.Seq.{drop-cons, take-add, take-all, length-take-le}
 use lib.Dec.{ltb, eqb, leb·zero, eqb·suc-zero}
 use borrow.Author.Tests.{leb-true, lt-leb, lt-ltb, le-ltb, ne-eqb}
+use Rattle.lines.specs.Laws.{plain}
 use Rattle.lines.specs.Bytes.{Bytes, isLF, control, all, lineFeeds}
 use Rattle.lines.specs.Utf8.{utf8, well}
 use Rattle.lines.specs.CharSteps.{charLength, lineAfter, controlAfter}
 use Rattle.lines.specs.Answers.{accepted, refused}
-use Rattle.lines.specs.Files.{endsOpen, size, lineAt, plain, firstControl, judged}
-use Rattle.lines.proofs.Bools.{by-cases, and-left, and-right, all-append, all-imp, not-true, impossible}
+use Rattle.lines.specs.Files.{unterminated, size, lineAt, firstControl, checkedBytes}
+use Rattle.lines.proofs.Bools.{by-cases, any-all, and-left, and-right, all-append, all-imp, not-true, impossible}
 use Rattle.lines.proofs.LineFeeds.{lineFeeds-append, lineFeeds-length}
 use Rattle.lines.proofs.Utf8Laws.{highByte, Character, character, utf8-append, not-utf8, start-ends}
 
 -- ---- size
 
-ends-open : (f : Bytes) (n : ℕ) → length f ≡ suc n → endsOpen f ≡ not (isLF (getD f n 0))
-unfolding endsOpen
+ends-open : (f : Bytes) (n : ℕ) → length f ≡ suc n → unterminated f ≡ not (isLF (getD f n 0))
+unfolding unterminated
 ends-open [] n e = absurd (omega arith)
 ends-open (b ∷ []) zero e = refl
 ends-open (b ∷ []) (suc n) e = absurd (omega arith)
@@ -31,14 +32,14 @@ ends-open (b ∷ c ∷ cs) (suc n) e = ends-open (c ∷ cs) n (omega arith)
 pub size-below : (n : ℕ) (f : Bytes) → length f < n → ltb n (size f) ≡ false
 unfolding size
 size-below n f h =
-    by-cases (endsOpen f)
+    by-cases (unterminated f)
     (λ e. rw e (le-ltb n (length f + 1) (omega arith)))
     (λ e. rw e (le-ltb n (length f) (omega arith)))
 
 pub size-over : (n : ℕ) (f : Bytes) → n < length f → ltb n (size f) ≡ true
 unfolding size
 size-over n f h =
-    by-cases (endsOpen f)
+    by-cases (unterminated f)
     (λ e. rw e (lt-ltb n (length f + 1) (omega arith)))
     (λ e. rw e (lt-ltb n (length f) (omega arith)))
 
@@ -46,7 +47,7 @@ size-over n f h =
 pub size-at : (n : ℕ) (f : Bytes) → length f ≡ suc n → ltb (suc n) (size f) ≡ not (isLF (getD f n 0))
 unfolding size
 size-at n f h =
-    by-cases (endsOpen f)
+    by-cases (unterminated f)
     (λ e. rw (e, ← ends-open f n h, e) (lt-ltb (suc n) (length f + 1) (omega arith)))
     (λ e. rw (e, ← ends-open f n h, e) (le-ltb (suc n) (length f) (omega arith)))
 
@@ -163,8 +164,8 @@ go {f} {i} (suc k) p h e ne = record {
 
 -- no character stands there: refused with 3
 pub broken : {f : Bytes} {i line found : ℕ} → Passed f i line found → i < length f → charLength (drop i f) ≡ 0
-    → judged f ≡ refused 3 line
-unfolding judged
+    → checkedBytes f ≡ refused 3 line
+unfolding checkedBytes
 broken {f} {i} p h e =
     let u : utf8 f ≡ false =
     ap utf8 (sym (take-append-drop i f) ∙ ap (λ (l : Bytes). take i f ++ l) (drop-cons f i 0 h))
@@ -173,11 +174,11 @@ broken {f} {i} p h e =
 
 -- the file has ended: control bytes decide
 pub ended : {f : Bytes} {i line found : ℕ} → Passed f i line found → length f ≤ i
-    → judged f ≡ cond (eqb found 0) (accepted tt) (refused 4 found)
-unfolding judged controlLine lineAt
+    → checkedBytes f ≡ cond (eqb found 0) (accepted tt) (refused 4 found)
+unfolding checkedBytes controlLine lineAt
 ended {f} {i} {found = found} p h =
     let u : utf8 f ≡ true = ap utf8 (sym (take-all i f h)) ∙ p .legal in
     let c : found ≡ controlLine f = p .first ∙ ap controlLine (take-all i f h) in
     by-cases (all plain f)
-    (λ e. rw (u, e, c, e))
-    (λ e. rw (u, e, c, e, eqb·suc-zero))
+    (λ e. rw (u, any-all control f, e, c, e))
+    (λ e. rw (u, any-all control f, e, c, e, eqb·suc-zero))

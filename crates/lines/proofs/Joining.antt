@@ -6,8 +6,9 @@ use native.Mathlib.Omega.{arith}
 use mathlib.Core.Bool.{true, false, not}
 use mathlib.Core.List.{List, [], _∷_, _++_, append-assoc, append-nil}
 use lib.ListN.{length, length-append}
+use Rattle.lines.specs.Laws.{bytesOf}
 use Rattle.lines.specs.Bytes.{Bytes}
-use Rattle.lines.specs.Lines.{Line, comment, continued, spaced, follow, joined}
+use Rattle.lines.specs.Lines.{Line, comment, continued, spaced, joinNext, joined}
 use Rattle.lines.specs.LineSteps.{piece, ends, firstBytes}
 use Rattle.lines.proofs.Bools.{by-cases, impossible}
 use Rattle.lines.proofs.Runs.{spaced-length}
@@ -16,7 +17,7 @@ use Rattle.lines.proofs.Physicals.{openLine}
 -- the logical lines `ls`, where the bytes `a`, of the line that began at line m, wait for their continuation
 unfoldable pub waiting : ℕ → Bytes → List Line → List Line
 waiting m a [] = openLine m a ∷ []
-waiting m a (k ∷ ks) = record { number = m; bytes = a ++ k .bytes; shut = k .shut } ∷ ks
+waiting m a (k ∷ ks) = record { number = m; bytes = a ++ k .bytes; end = k .end } ∷ ks
 
 module _ (l : Line) (ls : List Line) where
   pub joined-comment : comment (l .bytes) ≡ true → joined (l ∷ ls) ≡ joined ls
@@ -27,12 +28,16 @@ module _ (l : Line) (ls : List Line) where
   unfolding joined
   joined-line e k = rw (e, k)
 
+  pub joined-continued : comment (l .bytes) ≡ false → continued (l .bytes) ≡ true → joined (l ∷ ls) ≡ joinNext l (joined ls)
+  unfolding joined
+  joined-continued e k = rw (e, k)
+
   pub joined-open : comment (l .bytes) ≡ false → continued (l .bytes) ≡ true
       → joined (l ∷ ls) ≡ waiting (l .number) (spaced (l .bytes)) (joined ls)
-  unfolding joined follow waiting
+  unfolding joined joinNext waiting
   joined-open e k = rw (e, k) (go (joined ls))
     where
-      go : (r : List Line) → follow l r ≡ waiting (l .number) (spaced (l .bytes)) r
+      go : (r : List Line) → joinNext l r ≡ waiting (l .number) (spaced (l .bytes)) r
       go [] = refl
       go (k ∷ r) = refl
 
@@ -41,7 +46,7 @@ module _ (l : Line) (ls : List Line) where
     waiting-comment e = rw (joined-comment e)
 
     pub waiting-line : comment (l .bytes) ≡ false → continued (l .bytes) ≡ false
-        → waiting m a (joined (l ∷ ls)) ≡ record { number = m; bytes = a ++ l .bytes; shut = l .shut } ∷ joined ls
+        → waiting m a (joined (l ∷ ls)) ≡ record { number = m; bytes = a ++ l .bytes; end = l .end } ∷ joined ls
     unfolding waiting
     waiting-line e k = rw (joined-line e k)
 
@@ -52,7 +57,7 @@ module _ (l : Line) (ls : List Line) where
       where
         go : (r : List Line) → waiting m a (waiting (l .number) (spaced (l .bytes)) r) ≡ waiting m (a ++ spaced (l .bytes)) r
         go [] = refl
-        go (k ∷ r) = ap (λ (b : Bytes). record { number = m; bytes = b; shut = k .shut } ∷ r) (sym (append-assoc a (spaced (l .bytes)) (k .bytes)))
+        go (k ∷ r) = ap (λ (b : Bytes). record { number = m; bytes = b; end = k .end } ∷ r) (sym (append-assoc a (spaced (l .bytes)) (k .bytes)))
 
 -- ---- a physical line as a piece of the logical line
 
@@ -80,7 +85,7 @@ module _ (l : Bytes) where
 -- one turn of a loop over the physical lines
 module _ (m : ℕ) (a : Bytes) (l : Line) (ls : List Line) where
   pub waiting-ends : ends (l .bytes) ≡ true
-      → waiting m a (joined (l ∷ ls)) ≡ record { number = m; bytes = a ++ piece (l .bytes); shut = l .shut } ∷ joined ls
+      → waiting m a (joined (l ∷ ls)) ≡ record { number = m; bytes = a ++ piece (l .bytes); end = l .end } ∷ joined ls
   waiting-ends h =
       by-cases (comment (l .bytes)) (λ e. impossible (sym (piece-comment (l .bytes) e .1) ∙ h))
       (λ e. by-cases (continued (l .bytes)) (λ k. impossible (sym (piece-open (l .bytes) e k .1) ∙ h))
@@ -116,10 +121,6 @@ unfolding joined
 joined-without [] c b h = rw h
 joined-without (l ∷ a) c b h = rw (joined-without a c b h)
 
-abbrev pub bytesOf : List Line → List Bytes
-bytesOf [] = []
-bytesOf (l ∷ ls) = l .bytes ∷ bytesOf ls
-
 -- numbers and offsets decide nothing: the bytes of the logical lines come from those of the physical ones
 pub joined-same : (ls ks : List Line) → bytesOf ls ≡ bytesOf ks → bytesOf (joined ls) ≡ bytesOf (joined ks)
 unfolding joined
@@ -128,14 +129,14 @@ joined-same [] (k ∷ ks) e = let y : _≡_ {A = ℕ} 0 1 = cc in absurd (omega 
 joined-same (l ∷ ls) [] e = let y : _≡_ {A = ℕ} 0 1 = cc in absurd (omega arith)
 joined-same (l ∷ ls) (k ∷ ks) e = go (cc) (joined-same ls ks (cc))
   where
-    follow-same : l .bytes ≡ k .bytes → (r q : List Line) → bytesOf r ≡ bytesOf q → bytesOf (follow l r) ≡ bytesOf (follow k q)
-    follow-same b [] [] i = unfold follow in (rw b)
+    follow-same : l .bytes ≡ k .bytes → (r q : List Line) → bytesOf r ≡ bytesOf q → bytesOf (joinNext l r) ≡ bytesOf (joinNext k q)
+    follow-same b [] [] i = unfold joinNext in (rw b)
     follow-same b [] (x ∷ q) i = let y : _≡_ {A = ℕ} 0 1 = cc in absurd (omega arith)
     follow-same b (x ∷ r) [] i = let y : _≡_ {A = ℕ} 0 1 = cc in absurd (omega arith)
     follow-same b (x ∷ r) (z ∷ q) i =
         let h : x .bytes ≡ z .bytes = cc in
         let t : bytesOf r ≡ bytesOf q = cc in
-        unfold follow in (rw (b, h, t))
+        unfold joinNext in (rw (b, h, t))
 
     go : l .bytes ≡ k .bytes → bytesOf (joined ls) ≡ bytesOf (joined ks) → bytesOf (joined (l ∷ ls)) ≡ bytesOf (joined (k ∷ ks))
     go b i =

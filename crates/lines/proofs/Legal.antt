@@ -2,28 +2,19 @@
 -- and none of them ends in an odd run of backslashes; legal lines written out are a legal file.
 use mathlib.Core.Path.{_≡_, refl, sym, _∙_, subst}
 use Prim.Native.Nat.{ℕ, suc, _+_}
-use mathlib.Core.Bool.{Bool, true, false, not, _&&_}
+use mathlib.Core.Bool.{true, not, _&&_}
 use mathlib.Core.List.{List, [], _∷_, _++_, append-assoc}
 use lib.ListN.{length}
 use lib.Dec.{leb}
+use Rattle.lines.specs.Laws.{All, Legal, Settled, lineByte, noLF, plain}
 use Rattle.lines.specs.Bytes.{Bytes, isLF, all}
 use Rattle.lines.specs.Utf8.{utf8, well}
 use Rattle.lines.specs.Lines.{Line, physical, comment, continued, closingRun, odd, spaced, joined, logical, written}
-use Rattle.lines.specs.Files.{plain}
 use Rattle.lines.proofs.Bools.{by-cases, and-left, and-right, both, all-append, all-imp}
 use Rattle.lines.proofs.Utf8Laws.{utf8-split, utf8-append, utf8-ascii}
 use Rattle.lines.proofs.Runs.{Spaced, is-spaced, continued-after}
 use Rattle.lines.proofs.Joining.{waiting, joined-comment, joined-line, joined-open}
-use Rattle.lines.proofs.Physicals.{noLF, physical-cons, physical-last, Cut, nothing, last, more, cut}
-use Rattle.lines.proofs.Whole.{All}
-
--- a byte that may stand in a line
-abbrev pub lineByte : ℕ → Bool
-lineByte b = plain b && not (isLF b)
-
-pub record Legal (l : Bytes) : Type 0 where
-  pub characters : utf8 l ≡ true
-  pub bytes : all lineByte l ≡ true
+use Rattle.lines.proofs.Physicals.{physical-cons, physical-last, Cut, nothing, last, more, cut}
 
 pub legal-nil : Legal []
 legal-nil = record { characters = unfold utf8 well in refl; bytes = unfold all in refl }
@@ -94,11 +85,6 @@ legal-cut n a f (more l rest h k) u p =
     )
 
 -- ---- its logical lines
-
--- a legal line that goes on no further
-pub record Settled (l : Bytes) : Type 0 where
-  pub legal : Legal l
-  pub ends : continued l ≡ false
 
 abbrev pub SettledLine : Line → Type 0
 SettledLine l = Settled (l .bytes)

@@ -23,3 +23,5 @@ pub mod Pieces
 pub mod Walk
 pub mod Reading
 pub mod Promises
+-- what specs/Laws.antt states
+pub mod Laws

@@ -4,34 +4,31 @@ use Prim.Native.Nat.{ℕ, suc, _+_, _-_, _≤_, _<_}
 use native.Mathlib.Omega.{arith}
 use native.Mathlib.Nat.{add-zero}
 use native.Mathlib.Numerals.{add-one}
-use mathlib.Core.Bool.{Bool, true, false, not, _||_}
+use mathlib.Core.Bool.{true, false, not, _||_}
 use mathlib.Core.Option.{none, some}
 use mathlib.Core.List.{[], _∷_, _++_}
 use lib.ListN.{length, take, drop, getD, take-append-drop, drop-of-length-le}
 use lib.Seq.{take-all, length-take-le, drop-cons}
 use lib.Dec.{eqb}
 use borrow.Author.Tests.{eqb-true}
+use Rattle.lines.specs.Laws.{noLF}
 use Rattle.lines.specs.Bytes.{Bytes, isLF, all, lineFeeds}
-use Rattle.lines.specs.Lines.{Line, onto, physical, comment}
+use Rattle.lines.specs.Lines.{Line, prepend, physical, comment}
 use Rattle.lines.specs.LineSteps.{lineLength}
 use Rattle.lines.proofs.Bools.{by-cases, and-left, and-right, not-true}
 
 -- the line of number n and bytes l that starts at offset a and is ended by LF
 abbrev pub shutLine : ℕ → ℕ → Bytes → Line
-shutLine n a l = record { number = n; bytes = l; shut = some (suc (a + length l)) }
+shutLine n a l = record { number = n; bytes = l; end = some (suc (a + length l)) }
 
 -- the same, ended by the file's end
 abbrev pub openLine : ℕ → Bytes → Line
-openLine n l = record { number = n; bytes = l; shut = none }
-
-unfoldable pub noLF : Bytes → Bool
-unfolding all
-noLF l = all (λ b. not (isLF b)) l
+openLine n l = record { number = n; bytes = l; end = none }
 
 -- a line with its LF, and what follows
 pub physical-cons : (l rest : Bytes) (n a : ℕ) → noLF l ≡ true
     → physical n a (l ++ 0x0A ∷ rest) ≡ shutLine n a l ∷ physical (suc n) (suc (a + length l)) rest
-unfolding physical noLF all onto
+unfolding physical noLF all prepend
 physical-cons [] rest n a h = rw add-zero
 physical-cons (b ∷ bs) rest n a h =
     let e : suc a + length bs ≡ a + suc (length bs) = omega arith in
@@ -43,11 +40,11 @@ physical-cons (b ∷ bs) rest n a h =
 
 -- a last line without LF
 pub physical-last : (b : ℕ) (bs : Bytes) (n a : ℕ) → noLF (b ∷ bs) ≡ true → physical n a (b ∷ bs) ≡ openLine n (b ∷ bs) ∷ []
-unfolding physical noLF all onto
+unfolding physical noLF all prepend
 physical-last b [] n a h = rw (not-true (isLF b) (and-left (not (isLF b)) true h))
 physical-last b (c ∷ cs) n a h =
     rw (not-true (isLF b) (and-left (not (isLF b)) (noLF (c ∷ cs)) h))
-    (ap (onto n b) (physical-last c cs n (suc a) (and-right (not (isLF b)) (noLF (c ∷ cs)) h)))
+    (ap (prepend n b) (physical-last c cs n (suc a) (and-right (not (isLF b)) (noLF (c ∷ cs)) h)))
 
 -- ---- a file is a row of lines
 

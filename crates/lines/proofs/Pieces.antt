@@ -2,11 +2,9 @@
 use mathlib.Core.Path.{_≡_, refl, sym, ap, _∙_}
 use Prim.Native.Nat.{ℕ, _+_, _-_, _≤_}
 use native.Mathlib.Omega.{arith}
-use native.Mathlib.Nat.{add-zero}
 use mathlib.Core.Bool.{true, false, cond}
-use mathlib.Core.List.{[], _∷_, _++_, append-assoc, append-nil}
-use lib.ListN.{length, take, drop, set, length-append, take-append-drop}
-use lib.Seq.{set-at, length-take-le}
+use mathlib.Core.List.{[], _∷_}
+use lib.ListN.{length, set, length-append}
 use lib.Dec.{leb}
 use borrow.Author.Tests.{le-leb, not-false}
 use Rattle.lines.specs.Bytes.{Bytes}
@@ -14,33 +12,25 @@ use Rattle.lines.specs.Lines.{comment, continued, spaced}
 use Rattle.lines.specs.Buffers.{put}
 use Rattle.lines.specs.LineSteps.{piece, ends, PieceOf}
 use Rattle.lines.specs.declared.joiner.Piece.{Piece}
+use Rattle.lines.proofs.Buffers.{put-nil, set-put}
 use Rattle.lines.proofs.Bools.{by-cases, not-true}
-use Rattle.lines.proofs.Runs.{Spaced, is-spaced, spaced-length}
+use Rattle.lines.proofs.Runs.{Spaced, is-spaced}
 use Rattle.lines.proofs.Joining.{piece-comment, piece-open, piece-line, piece-length, ends-line}
-
-pub put-nil : (d : Bytes) (n : ℕ) → put d n [] ≡ d
-put-nil d n = simp (append-nil, add-zero, take-append-drop)
 
 nil : (l : Bytes) → length l ≡ 0 → l ≡ []
 nil [] e = refl
 nil (b ∷ bs) e = absurd (omega arith)
 
 -- the last byte of a part that was put becomes a space
-pub put-spaced : (d l : Bytes) (n : ℕ) → Spaced l → n + length l ≤ length d → set (put d n l) (n + length l - 1) 0x20 ≡ put d n (spaced l)
+pub put-spaced : (d l : Bytes) (n : ℕ) → Spaced l → n + length l ≤ length d
+    → set (put d n l) (n + length l - 1) 0x20 ≡ put d n (spaced l)
 put-spaced d l n s h =
-    let front : Bytes = take n d ++ s .front in
-    let back : Bytes = drop (n + length l) d in
     let size : length l ≡ length (s .front) + 1 = ap length (s .was) ∙ length-append (s .front) (0x5C ∷ []) in
-    let at : length front ≡ n + length l - 1 = length-append (take n d) (s .front) ∙ omega (arith, length-take-le n d (omega arith)) in
-    ap (λ (x : Bytes). set (take n d ++ x ++ back) (n + length l - 1) 0x20) (s .was)
-    ∙ ap (λ (x : Bytes). set x (n + length l - 1) 0x20) (regroup (take n d) (s .front) 0x5C back)
-    ∙ set-at front 0x5C back 0x20 (n + length l - 1) at
-    ∙ sym (regroup (take n d) (s .front) 0x20 back)
-    ∙ ap (λ (x : Bytes). take n d ++ x ++ back) (sym (s .now-is))
-    ∙ ap (λ (k : ℕ). take n d ++ spaced l ++ drop (n + k) d) (sym (spaced-length l))
-  where
-    regroup : (a b : Bytes) (x : ℕ) (r : Bytes) → a ++ (b ++ (x ∷ [])) ++ r ≡ (a ++ b) ++ x ∷ r
-    regroup a b x r = simp append-assoc
+    let at : n + length l - 1 ≡ n + length (s .front) = omega arith in
+    ap (λ (k : ℕ). set (put d n l) k 0x20) at
+    ∙ ap (λ (x : Bytes). set (put d n x) (n + length (s .front)) 0x20) (s .was)
+    ∙ set-put d n (s .front) 0x5C 0x20 (omega arith)
+    ∙ ap (put d n) (sym (s .now-is))
 
 module _ (l d : Bytes) (n : ℕ) (p : Piece) (is : PieceOf l p) where
   pub put-nothing : p .length ≡ 0 → d ≡ put d n (piece l)

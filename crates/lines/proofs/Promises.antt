@@ -7,16 +7,17 @@ use mathlib.Core.List.{List, [], _∷_}
 use lib.ListN.{length}
 use lib.Dec.{ltb}
 use borrow.Author.Tests.{ltb-true, ltb-false}
+use Rattle.lines.specs.Laws.{Ahead}
 use Rattle.lines.specs.Bytes.{Bytes}
 use Rattle.lines.specs.Lines.{Line}
 use Rattle.lines.specs.Answers.{Outcome, accepted, refused, numberOf, placeOf}
 use Rattle.lines.specs.Buffers.{filled}
-use Rattle.lines.specs.Cursors.{logicalFrom, past, next, found, ended, told, brought, NextLine}
+use Rattle.lines.specs.Cursors.{logicalFrom, cursorPast, next, found, ended, answerFor, bytesFor, NextLine}
 use Rattle.lines.specs.declared.error.Error.{Error}
 use Rattle.lines.specs.declared.joiner.Cursor.{Cursor}
 use Rattle.lines.specs.declared.joiner.Next.the-variants.{Found, End, Refused}
 use Rattle.lines.proofs.Bools.{by-cases}
-use Rattle.lines.proofs.Reading.{Ahead, ahead, next-short, next-none, next-found, next-long}
+use Rattle.lines.proofs.Reading.{ahead, next-short, next-none, next-found, next-long}
 
 -- ---- the four cases of the next line
 
@@ -73,14 +74,14 @@ module _ (f : Bytes) (c : Cursor) (before after : Bytes) where
   found-line n m d p = go (case f c (length before))
     where
       go : Case f c (length before) → FoundLine f c before after n m d
-      go (short h e) = let q : accepted (found n m d) ≡ refused 1 0 = p .answer ∙ ap (told f c) e in no (cc)
-      go (over h v e) = let q : accepted (found n m d) ≡ accepted ended = p .answer ∙ ap (told f c) e in no (cc)
-      go (long l ls h v b e) = let q : accepted (found n m d) ≡ refused 5 (l .number) = p .answer ∙ ap (told f c) e in no (cc)
+      go (short h e) = let q : accepted (found n m d) ≡ refused 1 0 = p .answer ∙ ap (answerFor f c) e in no (cc)
+      go (over h v e) = let q : accepted (found n m d) ≡ accepted ended = p .answer ∙ ap (answerFor f c) e in no (cc)
+      go (long l ls h v b e) = let q : accepted (found n m d) ≡ refused 5 (l .number) = p .answer ∙ ap (answerFor f c) e in no (cc)
       go (line l ls h v b e) =
-          let q : accepted (found n m d) ≡ accepted (found (length (l .bytes)) (l .number) (past f c l)) = p .answer ∙ ap (told f c) e in
+          let q : accepted (found n m d) ≡ accepted (found (length (l .bytes)) (l .number) (cursorPast f c l)) = p .answer ∙ ap (answerFor f c) e in
           let qn : length (l .bytes) ≡ n = cc in
           let qm : l .number ≡ m = cc in
-          let qd : past f c l ≡ d = cc in
+          let qd : cursorPast f c l ≡ d = cc in
           let a : Ahead f c l ls = ahead f c l ls v in
           record {
             line = l;
@@ -88,7 +89,7 @@ module _ (f : Bytes) (c : Cursor) (before after : Bytes) where
             number-is = qm;
             length-is = qn;
             fits = omega (arith, qn);
-            buffer = p .buffer ∙ ap (λ (o : Outcome (Option Line)). filled (brought o) before) e;
+            buffer = p .buffer ∙ ap (λ (o : Outcome (Option Line)). filled (bytesFor o) before) e;
             inside = rw qd at (a .inside);
             later = rw qd at (a .later);
             paid = omega (arith, qn, a .paid, ap (λ (x : Cursor). x .offset) qd);
@@ -98,11 +99,11 @@ module _ (f : Bytes) (c : Cursor) (before after : Bytes) where
   ended-line p = go (case f c (length before))
     where
       go : Case f c (length before) → (logicalFrom f c ≡ []) × (after ≡ before)
-      go (short h e) = let q : accepted ended ≡ refused 1 0 = p .answer ∙ ap (told f c) e in no (cc)
-      go (over h v e) = (v, p .buffer ∙ ap (λ (o : Outcome (Option Line)). filled (brought o) before) e)
-      go (long l ls h v b e) = let q : accepted ended ≡ refused 5 (l .number) = p .answer ∙ ap (told f c) e in no (cc)
+      go (short h e) = let q : accepted ended ≡ refused 1 0 = p .answer ∙ ap (answerFor f c) e in no (cc)
+      go (over h v e) = (v, p .buffer ∙ ap (λ (o : Outcome (Option Line)). filled (bytesFor o) before) e)
+      go (long l ls h v b e) = let q : accepted ended ≡ refused 5 (l .number) = p .answer ∙ ap (answerFor f c) e in no (cc)
       go (line l ls h v b e) =
-          let q : accepted ended ≡ accepted (found (length (l .bytes)) (l .number) (past f c l)) = p .answer ∙ ap (told f c) e in no (cc)
+          let q : accepted ended ≡ accepted (found (length (l .bytes)) (l .number) (cursorPast f c l)) = p .answer ∙ ap (answerFor f c) e in no (cc)
 
   -- with a buffer that is long enough
   pub long-line : (e : Error) → 4096 ≤ length before → NextLine f c before after (Refused e) → LongLine f c before after e
@@ -110,9 +111,9 @@ module _ (f : Bytes) (c : Cursor) (before after : Bytes) where
     where
       go : Case f c (length before) → LongLine f c before after e
       go (short h k) = absurd (omega arith)
-      go (over h v k) = let q : refused (numberOf e) (placeOf e) ≡ accepted ended = p .answer ∙ ap (told f c) k in no (cc)
+      go (over h v k) = let q : refused (numberOf e) (placeOf e) ≡ accepted ended = p .answer ∙ ap (answerFor f c) k in no (cc)
       go (long l ls h v b k) =
-          let q : refused (numberOf e) (placeOf e) ≡ refused 5 (l .number) = p .answer ∙ ap (told f c) k in
+          let q : refused (numberOf e) (placeOf e) ≡ refused 5 (l .number) = p .answer ∙ ap (answerFor f c) k in
           record {
             line = l;
             others = ls;
@@ -120,7 +121,7 @@ module _ (f : Bytes) (c : Cursor) (before after : Bytes) where
             long = b;
             number = cc;
             place = cc;
-            kept = p .buffer ∙ ap (λ (o : Outcome (Option Line)). filled (brought o) before) k;
+            kept = p .buffer ∙ ap (λ (o : Outcome (Option Line)). filled (bytesFor o) before) k;
           }
       go (line l ls h v b k) =
-          let q : refused (numberOf e) (placeOf e) ≡ accepted (found (length (l .bytes)) (l .number) (past f c l)) = p .answer ∙ ap (told f c) k in no (cc)
+          let q : refused (numberOf e) (placeOf e) ≡ accepted (found (length (l .bytes)) (l .number) (cursorPast f c l)) = p .answer ∙ ap (answerFor f c) k in no (cc)

@@ -10,11 +10,13 @@ use mathlib.Core.List.{List, [], _∷_}
 use lib.ListN.{length, drop}
 use lib.Dec.{leb, ltb}
 use borrow.Author.Tests.{lt-ltb, le-ltb, le-leb, lt-leb, ltb-true, ltb-false, leb-true, leb-false}
+use Rattle.lines.specs.Cursors.{firstCursor}
+use Rattle.lines.specs.Laws.{Ahead}
 use Rattle.lines.specs.Bytes.{Bytes, lineFeeds}
 use Rattle.lines.specs.Lines.{Line, comment, logical}
 use Rattle.lines.specs.Answers.{Outcome, accepted, refused}
 use Rattle.lines.specs.Buffers.{filled}
-use Rattle.lines.specs.Cursors.{linesAt, logicalFrom, endOf, stretch, past, nextOf, next, found, told, brought, nextMeans, NextLine}
+use Rattle.lines.specs.Cursors.{linesAt, logicalFrom, endOf, bytesBetween, cursorPast, nextOf, next, found, answerFor, bytesFor, nextMeans, NextLine}
 use Rattle.lines.specs.LineSteps.{piece, ends, At, PhysicalAt, PieceOf, Skipped, MeasuredAt}
 use Rattle.lines.specs.declared.joiner.Cursor.{Cursor}
 use Rattle.lines.specs.declared.joiner.Next.{Next}
@@ -69,21 +71,21 @@ module _ (f : Bytes) (c : Cursor) (n : ℕ) where
 
 -- the promise, from what the next line is
 pub promised : (f : Bytes) (c : Cursor) (d d′ : Bytes) (r : Next) (o : Outcome (Option Line)) → next f c (length d) ≡ o
-    → nextMeans r ≡ told f c o → d′ ≡ filled (brought o) d → NextLine f c d d′ r
-promised f c d d′ r o e a b = record { answer = a ∙ ap (told f c) (sym e); buffer = b ∙ ap (λ (x : Outcome (Option Line)). filled (brought x) d) (sym e) }
+    → nextMeans r ≡ answerFor f c o → d′ ≡ filled (bytesFor o) d → NextLine f c d d′ r
+promised f c d d′ r o e a b = record { answer = a ∙ ap (answerFor f c) (sym e); buffer = b ∙ ap (λ (x : Outcome (Option Line)). filled (bytesFor x) d) (sym e) }
 
 -- ---- the cursor past the line
 
 -- the comments that were skipped are passed too
-pub past-skipped : (f : Bytes) (c s : Cursor) (m : Measured) → Skipped f c s → (is : MeasuredAt f s m) → past f c (is .line) ≡ m .next
-unfolding past
+pub past-skipped : (f : Bytes) (c s : Cursor) (m : Measured) → Skipped f c s → (is : MeasuredAt f s m) → cursorPast f c (is .line) ≡ m .next
+unfolding cursorPast
 past-skipped f c s m k is =
-    let e : ℕ = endOf f (is .line .shut) in
+    let e : ℕ = endOf f (is .line .end) in
     let at : m .next .offset ≡ e = ap (λ (x : Cursor). x .offset) (is .next-is) in
-    let ll : m .next .line ≡ s .line + lineFeeds (stretch (s .offset) e f) = ap (λ (x : Cursor). x .line) (is .next-is) in
+    let ll : m .next .line ≡ s .line + lineFeeds (bytesBetween (s .offset) e f) = ap (λ (x : Cursor). x .line) (is .next-is) in
     let le : s .offset ≤ e = omega (arith, is .later) in
-    let q : c .line + lineFeeds (stretch (c .offset) e f) ≡ s .line + lineFeeds (stretch (s .offset) e f) =
-    omega (arith, k .onward .counted, ap lineFeeds (stretch-append (c .offset) (s .offset) e f (k .onward .onward) le), lineFeeds-append (stretch (c .offset) (s .offset) f) (stretch (s .offset) e f)) in
+    let q : c .line + lineFeeds (bytesBetween (c .offset) e f) ≡ s .line + lineFeeds (bytesBetween (s .offset) e f) =
+    omega (arith, k .onward .counted, ap lineFeeds (stretch-append (c .offset) (s .offset) e f (k .onward .onward) le), lineFeeds-append (bytesBetween (c .offset) (s .offset) f) (bytesBetween (s .offset) e f)) in
     rw q (sym (is .next-is))
 
 -- ---- the answer, where a valid cursor c has been taken past comments to s
@@ -102,7 +104,7 @@ module _ (f : Bytes) (c s : Cursor) (n : ℕ) (room : 4096 ≤ n) (v : c .line �
     pub next-too-long : 4096 < m .length → next f c n ≡ refused 5 (s .line)
     next-too-long h = next-long f c n room (is .line) (linesAt f (m .next)) from-measured (omega (arith, is .length-is)) ∙ ap (refused 5) (is .number-is)
 
-    pub told-measured : accepted (found (m .length) (s .line) (m .next)) ≡ told f c (accepted (some (is .line)))
+    pub told-measured : accepted (found (m .length) (s .line) (m .next)) ≡ answerFor f c (accepted (some (is .line)))
     told-measured = rw (is .length-is, sym (is .number-is), sym (past-skipped f c s m k is))
 
 -- ---- the view of the lines from a cursor on, by recursion on what is left of the file
@@ -124,7 +126,7 @@ measured zero f s c n h at w = (_, measured-over f s c n w at (omega arith))
 measured (suc k) f s c n h at w =
     by-cases (ltb (c .offset) (length f))
     (λ b. let l : (p : Physical) × PhysicalAt f c p = some-line f c (record { inside = ltb-true (c .offset) (length f) b; number = w .number }) in
-    let t : Bytes = stretch (c .offset) (l .0 .end) f in
+    let t : Bytes = bytesBetween (c .offset) (l .0 .end) f in
     let q : Piece = record { length = length (piece t); ends = ends t } in
     let of : PieceOf t q = record { length-is = refl; ends-is = refl } in
     by-cases (ends t)
@@ -132,30 +134,21 @@ measured (suc k) f s c n h at w =
     (λ e. measured k f s (l .0 .next) _ (omega (arith, l .1 .later)) at (walk-more f s c n w (l .0) (l .1) q of e)))
     (λ b. (_, measured-over f s c n w at (ltb-false (c .offset) (length f) b)))
 
--- what stands from a cursor on: nothing, or a line and what stands from the cursor past it
-pub record Ahead (f : Bytes) (c : Cursor) (l : Line) (ls : List Line) : Type 0 where
-  pub others : ls ≡ logicalFrom f (past f c l)
-  pub inside : past f c l .offset ≤ length f
-  pub later : c .offset < past f c l .offset
-  pub paid : c .offset + length (l .bytes) ≤ past f c l .offset
-  pub number : past f c l .line ≤ past f c l .offset + 1
-  pub first : c .line ≤ l .number
-
-view : (f : Bytes) (c : Cursor) → (logicalFrom f c ≡ []) ⊎ ((l : Line) × (logicalFrom f c ≡ l ∷ logicalFrom f (past f c l)) × Ahead f c l (logicalFrom f (past f c l)))
+view : (f : Bytes) (c : Cursor) → (logicalFrom f c ≡ []) ⊎ ((l : Line) × (logicalFrom f c ≡ l ∷ logicalFrom f (cursorPast f c l)) × Ahead f c l (logicalFrom f (cursorPast f c l)))
 view f c =
     by-cases (leb (c .line) (c .offset + 1))
     (λ v. by-cases (leb (c .offset) (length f)) (λ i. go (leb-true _ _ v) (leb-true _ _ i)) (λ i. inl (from-past f c (omega (arith, leb-false (c .offset) (length f) i)))))
     (λ v. inl (from-outside f c (leb-false _ _ v)))
   where
     line : c .line ≤ c .offset + 1 → (s : Cursor) → Skipped f c s → s .offset < length f
-        → (l : Line) × (logicalFrom f c ≡ l ∷ logicalFrom f (past f c l)) × Ahead f c l (logicalFrom f (past f c l))
+        → (l : Line) × (logicalFrom f c ≡ l ∷ logicalFrom f (cursorPast f c l)) × Ahead f c l (logicalFrom f (cursorPast f c l))
     line v s k b =
         let at : At f s = record { inside = b; number = onward-number f c s v (k .onward) } in
         let m : (m : Measured) × MeasuredAt f s m = measured (length f) f s s 0 (omega arith) at (walk-start f s (record { at = at; stands = k .stands })) in
         let is : MeasuredAt f s (m .0) = m .1 in
-        let p : past f c (is .line) ≡ m .0 .next = past-skipped f c s (m .0) k is in
+        let p : cursorPast f c (is .line) ≡ m .0 .next = past-skipped f c s (m .0) k is in
         let nv : m .0 .next .line ≤ m .0 .next .offset + 1 = onward-number f s (m .0 .next) (at .number) (is .onward) in
-        let e : logicalFrom f c ≡ is .line ∷ logicalFrom f (past f c (is .line)) =
+        let e : logicalFrom f c ≡ is .line ∷ logicalFrom f (cursorPast f c (is .line)) =
         from-valid f c v ∙ k .lines ∙ is .view ∙ ap (λ (r : List Line). is .line ∷ r) (sym (from-valid f (m .0 .next) nv) ∙ ap (logicalFrom f) (sym p)) in (
           is .line,
           e,
@@ -170,7 +163,7 @@ view f c =
         )
 
     go : c .line ≤ c .offset + 1 → c .offset ≤ length f
-        → (logicalFrom f c ≡ []) ⊎ ((l : Line) × (logicalFrom f c ≡ l ∷ logicalFrom f (past f c l)) × Ahead f c l (logicalFrom f (past f c l)))
+        → (logicalFrom f c ≡ []) ⊎ ((l : Line) × (logicalFrom f c ≡ l ∷ logicalFrom f (cursorPast f c l)) × Ahead f c l (logicalFrom f (cursorPast f c l)))
     go v i =
         let k : (s : Cursor) × Skipped f c s = skipped (length f) f c (omega arith) i v in
         by-cases (ltb (k .0 .offset) (length f))
@@ -181,21 +174,17 @@ view f c =
 pub ahead : (f : Bytes) (c : Cursor) (l : Line) (ls : List Line) → logicalFrom f c ≡ l ∷ ls → Ahead f c l ls
 ahead f c l ls e = go (view f c)
   where
-    go : (logicalFrom f c ≡ []) ⊎ ((k : Line) × (logicalFrom f c ≡ k ∷ logicalFrom f (past f c k)) × Ahead f c k (logicalFrom f (past f c k))) → Ahead f c l ls
+    go : (logicalFrom f c ≡ []) ⊎ ((k : Line) × (logicalFrom f c ≡ k ∷ logicalFrom f (cursorPast f c k)) × Ahead f c k (logicalFrom f (cursorPast f c k))) → Ahead f c l ls
     go (inl q) = absurd (no-line (sym q ∙ e))
       where
         no-line : [] ≡ l ∷ ls → ⊥
         no-line z = let y : _≡_ {A = ℕ} 0 1 = cc in omega arith
     go (inr t) =
-        let x : l ∷ ls ≡ t .0 ∷ logicalFrom f (past f c (t .0)) = sym e ∙ t .1 in
+        let x : l ∷ ls ≡ t .0 ∷ logicalFrom f (cursorPast f c (t .0)) = sym e ∙ t .1 in
         let a : t .0 ≡ l = cc in
-        let b : logicalFrom f (past f c (t .0)) ≡ ls = cc in
+        let b : logicalFrom f (cursorPast f c (t .0)) ≡ ls = cc in
         subst (λ (z : Line). Ahead f c z ls) a (subst (Ahead f c (t .0)) b (t .2))
 
--- a reading starts at offset 0, in line 1
-abbrev pub start : Cursor
-start = record { offset = 0; line = 1 }
-
-pub from-start : (f : Bytes) → logicalFrom f start ≡ logical f
+pub from-start : (f : Bytes) → logicalFrom f firstCursor ≡ logical f
 unfolding logical linesAt
-from-start f = from-valid f start (omega arith)
+from-start f = from-valid f firstCursor (omega arith)

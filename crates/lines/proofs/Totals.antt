@@ -6,28 +6,24 @@ use native.Mathlib.Omega.{arith}
 use mathlib.Core.Bool.{true, not}
 use mathlib.Core.List.{List, [], _∷_, _++_}
 use lib.ListN.{length, length-append}
+use Rattle.lines.specs.Laws.{noLF, total}
 use Rattle.lines.specs.Bytes.{Bytes, isLF, all}
 use Rattle.lines.specs.Lines.{Line, physical, comment, continued, spaced, joined, logical}
-use Rattle.lines.specs.Files.{endsOpen, size}
+use Rattle.lines.specs.Files.{unterminated, size}
 use Rattle.lines.proofs.Bools.{by-cases, and-left, and-right}
 use Rattle.lines.proofs.Runs.{spaced-length}
 use Rattle.lines.proofs.Joining.{waiting, joined-comment, joined-line, joined-open}
-use Rattle.lines.proofs.Physicals.{noLF, physical-cons, physical-last, Cut, nothing, last, more, cut}
-
--- the bytes of lines, each with its LF
-unfoldable pub total : List Line → ℕ
-total [] = 0
-total (l ∷ ls) = suc (length (l .bytes)) + total ls
+use Rattle.lines.proofs.Physicals.{physical-cons, physical-last, Cut, nothing, last, more, cut}
 
 -- ---- physical lines
 
-pub open-last : (b : ℕ) (bs : Bytes) → noLF (b ∷ bs) ≡ true → endsOpen (b ∷ bs) ≡ true
-unfolding endsOpen noLF all
+pub open-last : (b : ℕ) (bs : Bytes) → noLF (b ∷ bs) ≡ true → unterminated (b ∷ bs) ≡ true
+unfolding unterminated noLF all
 open-last b [] h = and-left (not (isLF b)) true h
 open-last b (c ∷ cs) h = open-last c cs (and-right (not (isLF b)) (noLF (c ∷ cs)) h)
 
-pub open-more : (l rest : Bytes) → endsOpen (l ++ 0x0A ∷ rest) ≡ endsOpen rest
-unfolding endsOpen
+pub open-more : (l rest : Bytes) → unterminated (l ++ 0x0A ∷ rest) ≡ unterminated rest
+unfolding unterminated
 open-more [] [] = refl
 open-more [] (c ∷ cs) = refl
 open-more (b ∷ []) rest = open-more [] rest
@@ -37,10 +33,10 @@ size-more : (l rest : Bytes) → size (l ++ 0x0A ∷ rest) ≡ suc (length l) + 
 unfolding size
 size-more l rest =
     let n : length (l ++ 0x0A ∷ rest) ≡ length l + suc (length rest) = length-append l (0x0A ∷ rest) in
-    rw (open-more l rest) (by-cases (endsOpen rest) (λ e. rw e (omega arith)) (λ e. rw e (omega arith)))
+    rw (open-more l rest) (by-cases (unterminated rest) (λ e. rw e (omega arith)) (λ e. rw e (omega arith)))
 
 total-cut : (n a : ℕ) (f : Bytes) → Cut f → total (physical n a f) ≡ size f
-unfolding total physical size endsOpen
+unfolding total physical size unterminated
 total-cut n a f nothing = refl
 total-cut n a f (last b bs h) = ap total (physical-last b bs n a h) ∙ rw (open-last b bs h) (omega arith)
 total-cut n a f (more l rest h k) =

@@ -8,7 +8,7 @@ use native.Mathlib.Numerals.{add-one}
 use lib.ListN.{length, take, drop, getD, drop-of-length-le}
 use lib.Seq.{drop-cons, take-suc}
 use Rattle.lines.specs.Bytes.{Bytes, blank, all}
-use Rattle.lines.specs.Trim.{trimStart, trimEnd, trim}
+use Rattle.lines.specs.Trim.{trimStart, trimEnd, trimmed}
 use Rattle.lines.proofs.Bools.{by-cases, and-left, and-right, and-false, not-true}
 
 -- ---- at the start
@@ -137,12 +137,12 @@ trimStart-trimEnd (b ∷ bs) =
     (λ e. rw (trimStart-blank b bs e) (trimStart-trimEnd bs))
     (λ e. rw (trimStart-solid b bs e, trimEnd-cons b bs, keep-solid b (trimEnd bs) e) (trimStart-solid b (trimEnd bs) e))
 
-pub trim-idem : (l : Bytes) → trim (trim l) ≡ trim l
-unfolding trim
+pub trim-idem : (l : Bytes) → trimmed (trimmed l) ≡ trimmed l
+unfolding trimmed
 trim-idem l = rw (trimStart-trimEnd l) (trimEnd-idem (trimStart l))
 
-pub length-trim : (l : Bytes) → length (trim l) ≤ length l
-unfolding trim
+pub length-trim : (l : Bytes) → length (trimmed l) ≤ length l
+unfolding trimmed
 length-trim l = omega (arith, length-trimEnd (trimStart l), length-trimStart l)
 
 -- ---- a step of a loop over a text

@@ -138,14 +138,14 @@ unfolding charLength
 past-none t = refl
 
 -- the row at k has the first byte or not, as a test says
-module _ (k : ℕ) (t : Bytes) (past : PastRows k t) {test : Bool} (asked : test ≡ hasFirst (drop k rows) t) where
+module _ (k : ℕ) (t : Bytes) (cursorPast : PastRows k t) {test : Bool} (asked : test ≡ hasFirst (drop k rows) t) where
   pub past-more : test ≡ false → PastRows (suc k) t
   past-more e =
-      past ∙ row-left (drop k rows) t (sym asked ∙ e)
+      cursorPast ∙ row-left (drop k rows) t (sym asked ∙ e)
       ∙ ap (λ (qs : List Row). charIn qs t) (drop-drop 1 k rows ∙ ap (λ (n : ℕ). drop n rows) (add-one k))
 
   pub row-decides : {n : ℕ} → test ≡ true → n ≡ lengthBy (follows (drop k rows)) t → n ≡ charLength t
-  row-decides e f = f ∙ sym (past ∙ row-taken (drop k rows) t (sym asked ∙ e))
+  row-decides e f = f ∙ sym (cursorPast ∙ row-taken (drop k rows) t (sym asked ∙ e))
 
 -- the ranges asked one index after the other
 unfoldable pub inEach : ℕ → List Range → Bytes → Bool

@@ -9,7 +9,7 @@ use lib.ListN.{length, drop, length-append, drop-of-length-le}
 use Rattle.lines.specs.Bytes.{Bytes, lineFeeds}
 use Rattle.lines.specs.Lines.{Line, physical, comment, joined}
 use Rattle.lines.specs.Buffers.{filled, put}
-use Rattle.lines.specs.Cursors.{linesAt, stretch, past}
+use Rattle.lines.specs.Cursors.{linesAt, bytesBetween, cursorPast}
 use Rattle.lines.specs.LineSteps.{piece, ends, firstBytes, At, Standing, Onward, PhysicalAt, PieceOf, MeasuredAt}
 use Rattle.lines.specs.declared.joiner.Cursor.{Cursor}
 use Rattle.lines.specs.declared.joiner.Physical.{Physical}
@@ -22,14 +22,14 @@ use Rattle.lines.proofs.CursorSteps.{onward-here, onward-more, onward-n
 
 -- a physical line from a cursor up to an offset, and the physical lines from a cursor on
 abbrev pub lineTo : Bytes → Cursor → ℕ → Option ℕ → Line
-lineTo f c e o = record { number = c .line; bytes = stretch (c .offset) e f; shut = o }
+lineTo f c e o = record { number = c .line; bytes = bytesBetween (c .offset) e f; end = o }
 
 abbrev pub physicalAt : Bytes → Cursor → List Line
 physicalAt f c = physical (c .line) (c .offset) (drop (c .offset) f)
 
 -- the lines at a cursor, by the physical line that stands there
 pub lines-cons : (f : Bytes) (c : Cursor) (p : Physical) (is : PhysicalAt f c p)
-    → linesAt f c ≡ joined (lineTo f c (p .end) (is .shut) ∷ physicalAt f (p .next))
+    → linesAt f c ≡ joined (lineTo f c (p .end) (is .end) ∷ physicalAt f (p .next))
 unfolding linesAt
 lines-cons f c p is = ap joined (is .first)
 
@@ -45,7 +45,7 @@ comment-over f i h = rw (drop-of-length-le f h)
 
 pub skip-more : (f : Bytes) (c : Cursor) (p : Physical) → PhysicalAt f c p → comment (drop (c .offset) f) ≡ true → linesAt f c ≡ linesAt f (p .next)
 unfolding linesAt
-skip-more f c p is e = lines-cons f c p is ∙ joined-comment (lineTo f c (p .end) (is .shut)) (physicalAt f (p .next)) (is .mark ∙ e)
+skip-more f c p is e = lines-cons f c p is ∙ joined-comment (lineTo f c (p .end) (is .end)) (physicalAt f (p .next)) (is .mark ∙ e)
 
 -- ---- joining
 
@@ -64,7 +64,7 @@ walk-start f s h =
     record {
       so-far = [];
       size = refl;
-      lines = sym (ap (waiting (s .line) []) (lines-cons f s (l .0) (l .1)) ∙ waiting-start (lineTo f s (l .0 .end) (l .1 .shut)) (physicalAt f (l .0 .next)) (l .1 .mark ∙ h .stands) ∙ sym (lines-cons f s (l .0) (l .1)));
+      lines = sym (ap (waiting (s .line) []) (lines-cons f s (l .0) (l .1)) ∙ waiting-start (lineTo f s (l .0 .end) (l .1 .end)) (physicalAt f (l .0 .next)) (l .1 .mark ∙ h .stands) ∙ sym (lines-cons f s (l .0) (l .1)));
       onward = onward-here f s (omega (arith, h .at .inside));
       number = h .at .number;
       paid = omega arith;
@@ -80,7 +80,7 @@ module _ (f : Bytes) (s c : Cursor) (n : ℕ) (w : Walk f s c n) where
   walk-over h = w .lines ∙ ap (waiting (s .line) (w .so-far)) (lines-none f c h)
 
   pub measured-over : At f s → length f ≤ c .offset → MeasuredAt f s (record { length = n; next = c })
-  unfolding past
+  unfolding cursorPast
   measured-over at h =
       let e : c .offset ≡ length f = omega (arith, w .onward .inside) in
       record {
@@ -91,7 +91,7 @@ module _ (f : Bytes) (s c : Cursor) (n : ℕ) (w : Walk f s c n) where
         onward = w .onward;
         later = omega (arith, at .inside);
         paid = w .paid;
-        next-is = cursor-is c (length f) _ e (w .onward .counted ∙ ap (λ (z : ℕ). s .line + lineFeeds (stretch (s .offset) z f)) e);
+        next-is = cursor-is c (length f) _ e (w .onward .counted ∙ ap (λ (z : ℕ). s .line + lineFeeds (bytesBetween (s .offset) z f)) e);
       }
 
   module _ (p : Physical) (is : PhysicalAt f c p) where
@@ -101,43 +101,43 @@ module _ (f : Bytes) (s c : Cursor) (n : ℕ) (w : Walk f s c n) where
     pub number-next : p .next .line ≤ p .next .offset + 1
     number-next = onward-number f c (p .next) (w .number) (is .onward)
 
-    pub lines-next : linesAt f s ≡ waiting (s .line) (w .so-far) (joined (lineTo f c (p .end) (is .shut) ∷ physicalAt f (p .next)))
+    pub lines-next : linesAt f s ≡ waiting (s .line) (w .so-far) (joined (lineTo f c (p .end) (is .end) ∷ physicalAt f (p .next)))
     lines-next = w .lines ∙ ap (waiting (s .line) (w .so-far)) (lines-cons f c p is)
 
     -- a piece is no longer than its line
-    pub piece-paid : s .offset + (n + length (piece (stretch (c .offset) (p .end) f))) ≤ p .end
+    pub piece-paid : s .offset + (n + length (piece (bytesBetween (c .offset) (p .end) f))) ≤ p .end
     piece-paid =
-        by-cases (comment (stretch (c .offset) (p .end) f))
-        (λ e. omega (arith, ap length (piece-comment (stretch (c .offset) (p .end) f) e .0), w .paid, is .starts))
-        (λ e. omega (arith, piece-length (stretch (c .offset) (p .end) f) e, stretch-length (c .offset) (p .end) f (is .stops), w .paid, is .starts))
+        by-cases (comment (bytesBetween (c .offset) (p .end) f))
+        (λ e. omega (arith, ap length (piece-comment (bytesBetween (c .offset) (p .end) f) e .0), w .paid, is .starts))
+        (λ e. omega (arith, piece-length (bytesBetween (c .offset) (p .end) f) e, stretch-length (c .offset) (p .end) f (is .stops), w .paid, is .starts))
 
     -- the line that is joined
-    pub whole : ends (stretch (c .offset) (p .end) f) ≡ true
-        → linesAt f s ≡ record { number = s .line; bytes = w .so-far ++ piece (stretch (c .offset) (p .end) f); shut = is .shut } ∷ linesAt f (p .next)
+    pub whole : ends (bytesBetween (c .offset) (p .end) f) ≡ true
+        → linesAt f s ≡ record { number = s .line; bytes = w .so-far ++ piece (bytesBetween (c .offset) (p .end) f); end = is .end } ∷ linesAt f (p .next)
     unfolding linesAt
-    whole e = lines-next ∙ waiting-ends (s .line) (w .so-far) (lineTo f c (p .end) (is .shut)) (physicalAt f (p .next)) e
+    whole e = lines-next ∙ waiting-ends (s .line) (w .so-far) (lineTo f c (p .end) (is .end)) (physicalAt f (p .next)) e
 
-    pub part : ends (stretch (c .offset) (p .end) f) ≡ false
-        → linesAt f s ≡ waiting (s .line) (w .so-far ++ piece (stretch (c .offset) (p .end) f)) (linesAt f (p .next))
+    pub part : ends (bytesBetween (c .offset) (p .end) f) ≡ false
+        → linesAt f s ≡ waiting (s .line) (w .so-far ++ piece (bytesBetween (c .offset) (p .end) f)) (linesAt f (p .next))
     unfolding linesAt
-    part e = lines-next ∙ waiting-more (s .line) (w .so-far) (lineTo f c (p .end) (is .shut)) (physicalAt f (p .next)) e
+    part e = lines-next ∙ waiting-more (s .line) (w .so-far) (lineTo f c (p .end) (is .end)) (physicalAt f (p .next)) e
 
     -- what has been met and the piece are a start of the line
-    pub piece-room : n + length (piece (stretch (c .offset) (p .end) f)) ≤ length (firstBytes (linesAt f s))
+    pub piece-room : n + length (piece (bytesBetween (c .offset) (p .end) f)) ≤ length (firstBytes (linesAt f s))
     piece-room =
-        let j : length (w .so-far ++ piece (stretch (c .offset) (p .end) f)) ≡ n + length (piece (stretch (c .offset) (p .end) f)) =
-        length-append (w .so-far) (piece (stretch (c .offset) (p .end) f)) ∙ ap (λ (k : ℕ). k + length (piece (stretch (c .offset) (p .end) f))) (w .size) in
-        by-cases (ends (stretch (c .offset) (p .end) f))
+        let j : length (w .so-far ++ piece (bytesBetween (c .offset) (p .end) f)) ≡ n + length (piece (bytesBetween (c .offset) (p .end) f)) =
+        length-append (w .so-far) (piece (bytesBetween (c .offset) (p .end) f)) ∙ ap (λ (k : ℕ). k + length (piece (bytesBetween (c .offset) (p .end) f))) (w .size) in
+        by-cases (ends (bytesBetween (c .offset) (p .end) f))
         (λ e. omega (arith, j, ap (λ (r : List Line). length (firstBytes r)) (whole e)))
-        (λ e. omega (arith, j, ap (λ (r : List Line). length (firstBytes r)) (part e), waiting-first (s .line) (w .so-far ++ piece (stretch (c .offset) (p .end) f)) (linesAt f (p .next))))
+        (λ e. omega (arith, j, ap (λ (r : List Line). length (firstBytes r)) (part e), waiting-first (s .line) (w .so-far ++ piece (bytesBetween (c .offset) (p .end) f)) (linesAt f (p .next))))
 
-    module _ (q : Piece) (of : PieceOf (stretch (c .offset) (p .end) f) q) where
-      size-next : length (w .so-far ++ piece (stretch (c .offset) (p .end) f)) ≡ n + q .length
-      size-next = length-append (w .so-far) (piece (stretch (c .offset) (p .end) f)) ∙ omega (arith, w .size, of .length-is)
+    module _ (q : Piece) (of : PieceOf (bytesBetween (c .offset) (p .end) f) q) where
+      size-next : length (w .so-far ++ piece (bytesBetween (c .offset) (p .end) f)) ≡ n + q .length
+      size-next = length-append (w .so-far) (piece (bytesBetween (c .offset) (p .end) f)) ∙ omega (arith, w .size, of .length-is)
 
       pub walk-more : q .ends ≡ false → Walk f s (p .next) (n + q .length)
       walk-more e = record {
-        so-far = w .so-far ++ piece (stretch (c .offset) (p .end) f);
+        so-far = w .so-far ++ piece (bytesBetween (c .offset) (p .end) f);
         size = size-next;
         lines = part (sym (of .ends-is) ∙ e);
         onward = onward-next;
@@ -146,16 +146,16 @@ module _ (f : Bytes) (s c : Cursor) (n : ℕ) (w : Walk f s c n) where
       }
 
       pub measured-line : q .ends ≡ true → MeasuredAt f s (record { length = n + q .length; next = p .next })
-      unfolding past
+      unfolding cursorPast
       measured-line e = record {
-        line = record { number = s .line; bytes = w .so-far ++ piece (stretch (c .offset) (p .end) f); shut = is .shut };
+        line = record { number = s .line; bytes = w .so-far ++ piece (bytesBetween (c .offset) (p .end) f); end = is .end };
         view = whole (sym (of .ends-is) ∙ e);
         number-is = refl;
         length-is = sym size-next;
         onward = onward-next;
         later = omega (arith, w .onward .onward, is .later);
         paid = omega (arith, piece-paid, of .length-is, is .ended-after);
-        next-is = cursor-is (p .next) _ _ (sym (is .ended)) (onward-next .counted ∙ ap (λ (z : ℕ). s .line + lineFeeds (stretch (s .offset) z f)) (sym (is .ended)));
+        next-is = cursor-is (p .next) _ _ (sym (is .ended)) (onward-next .counted ∙ ap (λ (z : ℕ). s .line + lineFeeds (bytesBetween (s .offset) z f)) (sym (is .ended)));
       }
 
 -- ---- copying
@@ -175,13 +175,13 @@ module _ (f : Bytes) (s c : Cursor) (n : ℕ) (before d : Bytes) (k : Copied f s
   copied-over h = k .held ∙ ap (λ (r : List Line). filled (firstBytes r) before) (sym (walk-over f s c n (k .walk) h))
 
   module _ (p : Physical) (is : PhysicalAt f c p) where
-    pub copied-room : length (firstBytes (linesAt f s)) ≤ length before → n + length (piece (stretch (c .offset) (p .end) f)) ≤ length d
+    pub copied-room : length (firstBytes (linesAt f s)) ≤ length before → n + length (piece (bytesBetween (c .offset) (p .end) f)) ≤ length d
     copied-room h = omega (arith, piece-room f s c n (k .walk) p is, k .same)
 
-    module _ (q : Piece) (of : PieceOf (stretch (c .offset) (p .end) f) q) (d′ : Bytes) (put-is : d′ ≡ put d n (piece (stretch (c .offset) (p .end) f))) where
-      next-held : d′ ≡ filled (k .walk .so-far ++ piece (stretch (c .offset) (p .end) f)) before
+    module _ (q : Piece) (of : PieceOf (bytesBetween (c .offset) (p .end) f) q) (d′ : Bytes) (put-is : d′ ≡ put d n (piece (bytesBetween (c .offset) (p .end) f))) where
+      next-held : d′ ≡ filled (k .walk .so-far ++ piece (bytesBetween (c .offset) (p .end) f)) before
       next-held =
-          put-is ∙ rw (k .held, ← k .walk .size) (filled-put (k .walk .so-far) (piece (stretch (c .offset) (p .end) f)) before)
+          put-is ∙ rw (k .held, ← k .walk .size) (filled-put (k .walk .so-far) (piece (bytesBetween (c .offset) (p .end) f)) before)
 
       pub copied-more : length d′ ≡ length d → q .ends ≡ false → Copied f s (p .next) (n + q .length) before d′
       unfolding walk-more

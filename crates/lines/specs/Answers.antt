@@ -7,7 +7,7 @@ pub data Outcome (A : Type 0) : Type 0 where
   accepted : A → Outcome A
   refused : ℕ → ℕ → Outcome A
 
--- the refusals 1 to 5: number and place
+-- the refusals 1 to 5: number
 abbrev pub numberOf : Error → ℕ
 numberOf ShortBuffer = 1
 numberOf FileTooLong = 2
@@ -15,9 +15,13 @@ numberOf (NotUtf8 n) = 3
 numberOf (ControlByte n) = 4
 numberOf (LineTooLong n) = 5
 
+-- and place
 abbrev pub placeOf : Error → ℕ
 placeOf ShortBuffer = 0
 placeOf FileTooLong = 0
 placeOf (NotUtf8 n) = n
 placeOf (ControlByte n) = n
 placeOf (LineTooLong n) = n
+
+abbrev pub errorMeans : {A : Type 0} → Error → Outcome A
+errorMeans e = refused (numberOf e) (placeOf e)

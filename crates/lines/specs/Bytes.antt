@@ -44,12 +44,17 @@ unfoldable pub all : (ℕ → Bool) → Bytes → Bool
 all p [] = true
 all p (b ∷ bs) = p b && all p bs
 
+-- some byte passes
+unfoldable pub any : (ℕ → Bool) → Bytes → Bool
+any p [] = false
+any p (b ∷ bs) = p b || any p bs
+
 -- equal byte for byte
-unfoldable pub same : Bytes → Bytes → Bool
-same [] [] = true
-same [] (c ∷ cs) = false
-same (b ∷ bs) [] = false
-same (b ∷ bs) (c ∷ cs) = eqb b c && same bs cs
+unfoldable pub equal : Bytes → Bytes → Bool
+equal [] [] = true
+equal [] (c ∷ cs) = false
+equal (b ∷ bs) [] = false
+equal (b ∷ bs) (c ∷ cs) = eqb b c && equal bs cs
 
 -- how many LFs there are
 unfoldable pub lineFeeds : Bytes → ℕ

@@ -1,4 +1,4 @@
--- Steps of the passes over bytes. Only private functions cite this file.
+-- Steps of the passes over bytes. No public promise cites this file.
 use Prim.Native.Nat.{ℕ, suc, _+_}
 use mathlib.Core.Bool.{Bool, true, false, _&&_, cond}
 use mathlib.Core.List.{List, [], _∷_}
@@ -34,7 +34,7 @@ charLength t = charIn rows t
 
 -- ---- the check of a file
 
--- the line after a byte
+-- the line number of the byte after b
 abbrev pub lineAfter : ℕ → ℕ → ℕ
 lineAfter line b = cond (isLF b) (line + 1) line
 

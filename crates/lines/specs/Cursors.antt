@@ -8,11 +8,15 @@ use lib.ListN.{length, take, drop}
 use lib.Dec.{leb, ltb}
 use Rattle.lines.specs.Bytes.{Bytes, lineFeeds}
 use Rattle.lines.specs.Lines.{Line, physical, joined}
-use Rattle.lines.specs.Answers.{Outcome, accepted, refused, numberOf, placeOf}
+use Rattle.lines.specs.Answers.{Outcome, accepted, refused, errorMeans}
 use Rattle.lines.specs.Buffers.{filled}
 use Rattle.lines.specs.declared.joiner.Cursor.{Cursor}
 use Rattle.lines.specs.declared.joiner.Next.{Next}
 use Rattle.lines.specs.declared.joiner.Next.the-variants.{Found, End, Refused}
+
+-- where a reading starts: at the first byte, in line 1
+abbrev pub firstCursor : Cursor
+firstCursor = record { offset = 0; line = 1 }
 
 -- the logical lines of what a file has from a cursor on
 unfoldable pub linesAt : Bytes → Cursor → List Line
@@ -20,7 +24,8 @@ unfolding physical joined
 linesAt f c = joined (physical (c .line) (c .offset) (drop (c .offset) f))
 
 -- The lines that are left for a cursor. One past the file has none, and neither has one whose line
--- number no reading gives: an offset has at most one more line up to it than bytes before it.
+-- number is above its offset + 1: no reading gives that, since an offset has no more LFs before it
+-- than bytes.
 unfoldable pub logicalFrom : Bytes → Cursor → List Line
 unfolding linesAt
 logicalFrom f c = cond (leb (c .line) (c .offset + 1)) (linesAt f c) []
@@ -31,15 +36,15 @@ endOf f none = length f
 endOf f (some e) = e
 
 -- the bytes from offset a up to offset e
-abbrev pub stretch : ℕ → ℕ → Bytes → Bytes
-stretch a e f = take (e - a) (drop a f)
+abbrev pub bytesBetween : ℕ → ℕ → Bytes → Bytes
+bytesBetween a e f = take (e - a) (drop a f)
 
 -- the cursor just past a line: its line number has grown by the LFs passed
-unfoldable pub past : Bytes → Cursor → Line → Cursor
+unfoldable pub cursorPast : Bytes → Cursor → Line → Cursor
 unfolding lineFeeds
-past f c l = record {
-  offset = endOf f (l .shut);
-  line = c .line + lineFeeds (stretch (c .offset) (endOf f (l .shut)) f);
+cursorPast f c l = record {
+  offset = endOf f (l .end);
+  line = c .line + lineFeeds (bytesBetween (c .offset) (endOf f (l .end)) f);
 }
 
 -- the next logical line: the first of those that are left; over 4,096 bytes it is refused with 5
@@ -56,27 +61,27 @@ next f c n = cond (ltb n 4096) (refused 1 0) (nextOf (logicalFrom f c))
 
 -- a line's length, the number of its first physical line, and the cursor past it; or the end
 pub data Reading : Type 0 where
-  found : ℕ → ℕ → Cursor → Reading
+  found : (size first : ℕ) (next : Cursor) → Reading
   ended : Reading
 
-abbrev pub told : Bytes → Cursor → Outcome (Option Line) → Outcome Reading
-told f c (accepted (some l)) = accepted (found (length (l .bytes)) (l .number) (past f c l))
-told f c (accepted none) = accepted ended
-told f c (refused n p) = refused n p
+abbrev pub answerFor : Bytes → Cursor → Outcome (Option Line) → Outcome Reading
+answerFor f c (accepted (some l)) = accepted (found (length (l .bytes)) (l .number) (cursorPast f c l))
+answerFor f c (accepted none) = accepted ended
+answerFor f c (refused n p) = refused n p
 
 -- the bytes that it puts at the front of the buffer: those of a line that was found
-abbrev pub brought : Outcome (Option Line) → Bytes
-brought (accepted (some l)) = l .bytes
-brought (accepted none) = []
-brought (refused n p) = []
+abbrev pub bytesFor : Outcome (Option Line) → Bytes
+bytesFor (accepted (some l)) = l .bytes
+bytesFor (accepted none) = []
+bytesFor (refused n p) = []
 
 -- what the answer of `next_line` means
 abbrev pub nextMeans : Next → Outcome Reading
-nextMeans (Found n m c) = accepted (found n m c)
+nextMeans (Found size first next) = accepted (found size first next)
 nextMeans End = accepted ended
-nextMeans (Refused e) = refused (numberOf e) (placeOf e)
+nextMeans (Refused e) = errorMeans e
 
 -- the promise of `next_line`: the answer, and the whole buffer
 pub record NextLine (f : Bytes) (c : Cursor) (before after : Bytes) (r : Next) : Type 0 where
-  pub answer : nextMeans r ≡ told f c (next f c (length before))
-  pub buffer : after ≡ filled (brought (next f c (length before))) before
+  pub answer : nextMeans r ≡ answerFor f c (next f c (length before))
+  pub buffer : after ≡ filled (bytesFor (next f c (length before))) before

@@ -7,6 +7,8 @@ pub mod Buffers
 pub mod Answers
 pub mod Files
 pub mod Cursors
--- cited by private functions alone
+-- what the crates above rest on
+pub mod Laws
+-- cited by no public promise
 pub mod CharSteps
 pub mod LineSteps

@@ -1,4 +1,4 @@
--- Steps of the joiner. Only private functions cite this file.
+-- Steps of the joiner. No public promise cites this file.
 use mathlib.Core.Path.{_≡_}
 use Prim.Native.Nat.{ℕ, suc, _+_, _≤_, _<_}
 use mathlib.Core.Bool.{Bool, false, not, cond}
@@ -7,7 +7,7 @@ use mathlib.Core.List.{List, [], _∷_}
 use lib.ListN.{length, drop}
 use Rattle.lines.specs.Bytes.{Bytes, isLF, lineFeeds}
 use Rattle.lines.specs.Lines.{Line, physical, comment, continued, spaced}
-use Rattle.lines.specs.Cursors.{linesAt, endOf, stretch, past}
+use Rattle.lines.specs.Cursors.{linesAt, endOf, bytesBetween, cursorPast}
 use Rattle.lines.specs.declared.joiner.Cursor.{Cursor}
 use Rattle.lines.specs.declared.joiner.Physical.{Physical}
 use Rattle.lines.specs.declared.joiner.Piece.{Piece}
@@ -33,7 +33,7 @@ abbrev pub firstBytes : List Line → Bytes
 firstBytes [] = []
 firstBytes (l ∷ ls) = l .bytes
 
--- a cursor that a reading may give, before the file's end
+-- a cursor before the file's end whose line number is not above its offset + 1
 pub record At (f : Bytes) (c : Cursor) : Type 0 where
   pub inside : c .offset < length f
   pub number : c .line ≤ c .offset + 1
@@ -43,19 +43,19 @@ pub record Standing (f : Bytes) (c : Cursor) : Type 0 where
   pub at : At f c
   pub stands : comment (drop (c .offset) f) ≡ false
 
--- d lies at or behind c, in the file or at its end, and counts the LFs between them
+-- d lies at c or after it, in the file or at its end, and counts the LFs between them
 pub record Onward (f : Bytes) (c d : Cursor) : Type 0 where
   pub inside : d .offset ≤ length f
   pub onward : c .offset ≤ d .offset
-  pub counted : d .line ≡ c .line + lineFeeds (stretch (c .offset) (d .offset) f)
+  pub counted : d .line ≡ c .line + lineFeeds (bytesBetween (c .offset) (d .offset) f)
 
 -- the physical line at c
 pub record PhysicalAt (f : Bytes) (c : Cursor) (p : Physical) : Type 0 where
-  pub shut : Option ℕ
+  pub end : Option ℕ
   pub first : physical (c .line) (c .offset) (drop (c .offset) f)
-      ≡ record { number = c .line; bytes = stretch (c .offset) (p .end) f; shut = shut } ∷ physical (p .next .line) (p .next .offset) (drop (p .next .offset) f)
-  pub mark : comment (stretch (c .offset) (p .end) f) ≡ comment (drop (c .offset) f)
-  pub ended : endOf f shut ≡ p .next .offset
+      ≡ record { number = c .line; bytes = bytesBetween (c .offset) (p .end) f; end = end } ∷ physical (p .next .line) (p .next .offset) (drop (p .next .offset) f)
+  pub mark : comment (bytesBetween (c .offset) (p .end) f) ≡ comment (drop (c .offset) f)
+  pub ended : endOf f end ≡ p .next .offset
   pub onward : Onward f c (p .next)
   pub later : c .offset < p .next .offset
   pub starts : c .offset ≤ p .end
@@ -78,7 +78,7 @@ pub record MeasuredAt (f : Bytes) (c : Cursor) (m : Measured) : Type 0 where
   pub view : linesAt f c ≡ line ∷ linesAt f (m .next)
   pub number-is : line .number ≡ c .line
   pub length-is : m .length ≡ length (line .bytes)
-  pub next-is : m .next ≡ past f c line
+  pub next-is : m .next ≡ cursorPast f c line
   pub onward : Onward f c (m .next)
   pub later : c .offset < m .next .offset
   pub paid : c .offset + m .length ≤ m .next .offset

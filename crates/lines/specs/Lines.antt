@@ -7,29 +7,30 @@ use lib.ListN.{length}
 use lib.Dec.{eqb}
 use Rattle.lines.specs.Bytes.{Bytes, isLF, all}
 
--- A line: the number of the (first) physical line that it is made of, its bytes, and the offset just
--- after the LF that ends it, none where the file's end does.
+-- A physical or a logical line: the number of the (first) physical line that it is made of, its bytes,
+-- and the offset just after the LF that ends it, none where the file's end does.
 pub record Line : Type 0 where
   pub number : ℕ
   pub bytes : Bytes
-  pub shut : Option ℕ
+  pub end : Option ℕ
 
 -- ---- physical lines
 
--- a byte in front of the first line, which has the number n; alone it is a line that the file's end ends
-unfoldable pub onto : ℕ → ℕ → List Line → List Line
-onto n b [] = record { number = n; bytes = b ∷ []; shut = none } ∷ []
-onto n b (l ∷ ls) = record { number = n; bytes = b ∷ l .bytes; shut = l .shut } ∷ ls
+-- One byte more at the start of the first line, which has the number n. Where no line follows, the byte
+-- is a line of its own, and the file's end ends it.
+unfoldable pub prepend : ℕ → ℕ → List Line → List Line
+prepend n b [] = record { number = n; bytes = b ∷ []; end = none } ∷ []
+prepend n b (l ∷ ls) = record { number = n; bytes = b ∷ l .bytes; end = l .end } ∷ ls
 
 -- The physical lines of bytes that start at offset a, in line n. Each ends at LF or at the file's
 -- end; nothing after a last LF is no line.
 unfoldable pub physical : ℕ → ℕ → Bytes → List Line
-unfolding onto
+unfolding prepend
 physical n a [] = []
 physical n a (b ∷ bs) =
     cond (isLF b)
-    (record { number = n; bytes = []; shut = some (suc a) } ∷ physical (suc n) (suc a) bs)
-    (onto n b (physical n (suc a) bs))
+    (record { number = n; bytes = []; end = some (suc a) } ∷ physical (suc n) (suc a) bs)
+    (prepend n b (physical n (suc a) bs))
 
 -- ---- comment lines
 
@@ -66,22 +67,23 @@ spaced (b ∷ c ∷ cs) = b ∷ spaced (c ∷ cs)
 
 -- ---- joining
 
--- A continued line and the logical lines of what comes after it: the first of these follows it at
--- once. Where there is none, the file has ended and the line is complete.
-unfoldable pub follow : Line → List Line → List Line
+-- A continued line l, and the logical lines of what comes after it. The first of these begins with the
+-- next line that is no comment, and follows at once, its leading blanks kept. Where there is none the
+-- file has ended and the line is complete; its backslash is a space there too (bench case 4).
+unfoldable pub joinNext : Line → List Line → List Line
 unfolding spaced
-follow l [] = record { number = l .number; bytes = spaced (l .bytes); shut = none } ∷ []
-follow l (k ∷ ks) = record { number = l .number; bytes = spaced (l .bytes) ++ k .bytes; shut = k .shut } ∷ ks
+joinNext l [] = record { number = l .number; bytes = spaced (l .bytes); end = none } ∷ []
+joinNext l (k ∷ ks) = record { number = l .number; bytes = spaced (l .bytes) ++ k .bytes; end = k .end } ∷ ks
 
 -- The logical lines of physical lines. A comment line is dropped whole, wherever it stands.
 unfoldable pub joined : List Line → List Line
-unfolding comment continued follow
+unfolding comment continued joinNext
 joined [] = []
 joined (l ∷ ls) =
     cond (comment (l .bytes)) (joined ls)
-    (cond (continued (l .bytes)) (follow l (joined ls)) (l ∷ joined ls))
+    (cond (continued (l .bytes)) (joinNext l (joined ls)) (l ∷ joined ls))
 
--- the logical lines of a file
+-- the logical lines of a file, before trimming
 unfoldable pub logical : Bytes → List Line
 unfolding physical joined
 logical f = joined (physical 1 0 f)

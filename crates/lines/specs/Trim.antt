@@ -1,4 +1,4 @@
--- Trimming: blanks at both ends go.
+-- Trimming: blanks at both ends go. The layer above trims each logical line, and ignores an empty one.
 use mathlib.Core.Bool.{cond}
 use mathlib.Core.List.{[], _∷_}
 use Rattle.lines.specs.Bytes.{Bytes, blank, all}
@@ -14,6 +14,6 @@ unfolding all
 trimEnd [] = []
 trimEnd (b ∷ bs) = cond (all blank (b ∷ bs)) [] (b ∷ trimEnd bs)
 
-unfoldable pub trim : Bytes → Bytes
+unfoldable pub trimmed : Bytes → Bytes
 unfolding trimStart trimEnd
-trim l = trimEnd (trimStart l)
+trimmed l = trimEnd (trimStart l)

@@ -47,7 +47,8 @@ unfoldable pub after : Option (List Range) → (List Range → Bool) → Bool
 after none go = false
 after (some rs) go = go rs
 
--- first one byte in each of the ranges, and then whole characters
+-- one byte in each of the ranges that are still to come, and then whole characters: each is a first
+-- byte of a row, followed by what that row asks
 unfoldable pub well : List Range → Bytes → Bool
 unfolding heads after
 well [] [] = true
@@ -60,7 +61,7 @@ unfoldable pub utf8 : Bytes → Bool
 unfolding well
 utf8 f = well [] f
 
--- the longest well-formed start among the starts of at most n bytes
+-- the length of the longest well-formed start among those of at most n bytes, where there are n
 unfoldable pub startWithin : ℕ → Bytes → ℕ
 unfolding utf8
 startWithin zero f = 0
@@ -71,10 +72,10 @@ unfoldable pub longestStart : Bytes → ℕ
 unfolding startWithin
 longestStart f = startWithin (length f) f
 
--- the bytes of a code point, at most 10FFFF
+-- the bytes of a code point: at most 10FFFF, and none of D800 to DFFF
 unfoldable pub encoded : ℕ → Bytes
 encoded n =
     cond (leb n 0x7F) (n ∷ [])
     (cond (leb n 0x7FF) ((0xC0 + n / 0x40) ∷ (0x80 + n % 0x40) ∷ [])
-    (cond (leb n 0xFFFF) ((0xE0 + n / 0x1000) ∷ (0x80 + n / 0x40 % 0x40) ∷ (0x80 + n % 0x40) ∷ [])
-    ((0xF0 + n / 0x40000) ∷ (0x80 + n / 0x1000 % 0x40) ∷ (0x80 + n / 0x40 % 0x40) ∷ (0x80 + n % 0x40) ∷ [])))
+    (cond (leb n 0xFFFF) ((0xE0 + n / 0x1000) ∷ (0x80 + (n / 0x40) % 0x40) ∷ (0x80 + n % 0x40) ∷ [])
+    ((0xF0 + n / 0x40000) ∷ (0x80 + (n / 0x1000) % 0x40) ∷ (0x80 + (n / 0x40) % 0x40) ∷ (0x80 + n % 0x40) ∷ [])))

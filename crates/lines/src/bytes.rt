@@ -4,8 +4,8 @@ ghost use mathlib.Core.Bool.{cond};
 ghost use Prim.Native.Nat.{_+_, _≤_};
 ghost use lib.ListN.{length};
 ghost use lib.Dec.{leb};
-ghost use Rattle.lines.specs.Bytes.{between, blank, control, letter, digit, keyByte, headerByte, same};
-ghost use Rattle.lines.specs.Trim.{trimStart, trimEnd, trim};
+ghost use Rattle.lines.specs.Bytes.{between, blank, control, letter, digit, keyByte, headerByte, equal};
+ghost use Rattle.lines.specs.Trim.{trimStart, trimEnd, trimmed};
 ghost use Rattle.lines.specs.Buffers.{put};
 
 // ---- tests on a byte
@@ -79,7 +79,7 @@ pub fn is_header_byte(b: u8) -> bool
 
 // Equal byte for byte.
 pub fn same(a: &[u8], b: &[u8]) -> bool
-    ensures { λ r. ⌜ r ≡ same (now (a .entry)) (now (b .entry)) ⌝ }
+    ensures { λ r. ⌜ r ≡ equal (now (a .entry)) (now (b .entry)) ⌝ }
 {
     if a.len() != b.len() {
         return false;
@@ -125,7 +125,7 @@ pub fn trim_end(text: &[u8]) -> &[u8]
 }
 
 pub fn trim(text: &[u8]) -> &[u8]
-    ensures { λ r. ⌜ now r ≡ trim (now (text .entry)) ⌝ }
+    ensures { λ r. ⌜ now r ≡ trimmed (now (text .entry)) ⌝ }
 {
     trim_end(trim_start(text))
 }

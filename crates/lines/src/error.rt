@@ -2,7 +2,7 @@
 ghost use mathlib.Core.Path.{_≡_};
 ghost use Rattle.lines.specs.Answers.{numberOf, placeOf};
 
-// What is wrong with a file carries its line.
+// A fault in a line carries the line's number.
 pub enum Error {
     ShortBuffer,
     FileTooLong,

@@ -5,7 +5,7 @@ use crate::utf8::char_length;
 ghost use mathlib.Core.Path.{_≡_};
 ghost use Prim.Native.Nat.{_<_, _^_};
 ghost use lib.Dec.{ltb};
-ghost use Rattle.lines.specs.Files.{size, judged, checked, checkMeans};
+ghost use Rattle.lines.specs.Files.{size, checkedBytes, checkedFile, checkMeans};
 ghost use Rattle.lines.specs.CharSteps.{lineAfter, controlAfter};
 
 pub enum Check {
@@ -51,7 +51,7 @@ fn control_after(found: usize, line: usize, b: u8) -> usize
 
 // The bytes of a file: first UTF-8, then control bytes, in one pass from character to character.
 fn check_bytes(file: &[u8]) -> Check
-    ensures { λ r. ⌜ checkMeans r ≡ judged (now (file .entry)) ⌝ }
+    ensures { λ r. ⌜ checkMeans r ≡ checkedBytes (now (file .entry)) ⌝ }
 {
     let mut i = 0;
     let mut line = 1;
@@ -74,7 +74,7 @@ fn check_bytes(file: &[u8]) -> Check
 
 // What is judged of a whole file: its size, UTF-8, control bytes.
 pub fn check_file(file: &[u8]) -> Check
-    ensures { λ r. ⌜ checkMeans r ≡ checked (now (file .entry)) ⌝ }
+    ensures { λ r. ⌜ checkMeans r ≡ checkedFile (now (file .entry)) ⌝ }
 {
     if too_long(file) {
         return Check::Refused(Error::FileTooLong);

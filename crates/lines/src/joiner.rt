@@ -7,13 +7,22 @@ ghost use Prim.Native.Nat.{_+_, _≤_, _<_};
 ghost use lib.ListN.{length, drop};
 ghost use Rattle.lines.specs.Lines.{comment, continued};
 ghost use Rattle.lines.specs.Buffers.{filled, put};
-ghost use Rattle.lines.specs.Cursors.{linesAt, NextLine};
+ghost use Rattle.lines.specs.Cursors.{firstCursor, linesAt, NextLine};
 ghost use Rattle.lines.specs.LineSteps.{lineLength, piece, ends, firstBytes, At, Standing, PhysicalAt, PieceOf, Skipped, MeasuredAt};
 
-// Where reading goes on: an offset of the file, and the number of the line that starts there.
+// Where reading goes on: an offset of the file, and the number of its line.
 pub struct Cursor {
     pub offset: usize,
     pub line: usize,
+}
+
+impl Cursor {
+    // At the first byte, in line 1.
+    pub fn first() -> Cursor
+        ensures { λ r. ⌜ r ≡ firstCursor ⌝ }
+    {
+        Cursor { offset: 0, line: 1 }
+    }
 }
 
 pub enum Next {
@@ -82,7 +91,7 @@ fn physical_line(file: &[u8], c: Cursor) -> Physical
     }
 }
 
-// Whether a line, or what starts with it, is a comment.
+// Whether a line is a comment, by its bytes or by the bytes from its start on.
 fn is_comment(text: &[u8]) -> bool
     ensures { λ r. ⌜ r ≡ comment (now (text .entry)) ⌝ }
 {
@@ -202,8 +211,9 @@ fn copy_joined(file: &[u8], start: Cursor, buffer: &mut [u8])
     }
 }
 
-// The next logical line from a cursor on, at the front of the buffer. It is measured before it is
-// copied: a line that is refused leaves the buffer as it was.
+// The next logical line from a cursor on, not trimmed, at the front of the buffer. The buffer has at
+// least 4,096 bytes. A cursor that no reading gives is at the end. The line is measured before it is
+// copied: one that is refused leaves the buffer as it was.
 pub fn next_line(file: &[u8], cursor: Cursor, buffer: &mut [u8]) -> Next
     ensures { λ r. ⌜ NextLine (now (file .entry)) cursor (now (buffer .entry)) (now (buffer .exit)) r ⌝ }
 {

@@ -74,7 +74,7 @@ fn list_line(file: &[u8], cursor: Cursor, buffer: &mut [u8], most: usize) -> Ste
 
 // No file that is accepted has more lines than bytes.
 fn list_lines(file: &[u8], buffer: &mut [u8], most: usize) {
-    let mut cursor = Cursor { offset: 0, line: 1 };
+    let mut cursor = Cursor::first();
     for _ in 0..65536usize {
         match list_line(file, cursor, buffer, most) {
             Step::Go(next) => cursor = next,

@@ -6,14 +6,14 @@ use lib.ListN.{length, drop}
 use denote.Ref.{now}
 use borrow.Author.Needs.{needs}
 use borrow.Author.Tests.{eq-eqb, ne-eqb}
-use Rattle.lines.specs.Bytes.{same}
+use Rattle.lines.specs.Bytes.{equal}
 use Rattle.lines.proofs.Bools.{is-false}
 use Rattle.lines.proofs.Comparison.{same-length, same-here, same-done}
 use Rattle.lines.proofs.bytes.same.Statement.{statement}
 use Rattle.lines.proofs.bytes.same.Tie as tie
 
 abbrev Inv-loop : tie.InvT-loop
-Inv-loop a b i₀ i = (i ≤ length a) × (same a b ≡ same (drop i a) (drop i b))
+Inv-loop a b i₀ i = (i ≤ length a) × (equal a b ≡ equal (drop i a) (drop i b))
 
 abbrev μ-loop : tie.MeasureT-loop
 μ-loop a b i₀ i = length a - i

@@ -1,0 +1,48 @@
+-- The laws that specs/Laws.antt states, each by the module that proves it.
+use Rattle.lines.specs.Laws.{Utf8Splits, Utf8Appends, EncodedUtf8, CommentDropped, LineKept, LineContinued, CommentAnywhere, ReadsAll, ReadsOn, LinesFit, ReadBack, LinesSettled, WrittenLegal}
+use Rattle.lines.proofs.Utf8Laws.{utf8-split, utf8-append}
+use Rattle.lines.proofs.Encoded.{encoded-utf8}
+use Rattle.lines.proofs.Joining.{joined-comment, joined-line, joined-continued, joined-without}
+use Rattle.lines.proofs.Reading.{from-start, ahead}
+use Rattle.lines.proofs.Totals.{logical-total}
+use Rattle.lines.proofs.Whole.{logical-written}
+use Rattle.lines.proofs.Legal.{logical-settled, written-legal}
+
+pub utf8-splits : Utf8Splits
+utf8-splits = utf8-split
+
+pub utf8-appends : Utf8Appends
+utf8-appends = utf8-append
+
+pub encoded-is-utf8 : EncodedUtf8
+encoded-is-utf8 = encoded-utf8
+
+pub comment-dropped : CommentDropped
+comment-dropped = joined-comment
+
+pub line-kept : LineKept
+line-kept = joined-line
+
+pub line-continued : LineContinued
+line-continued = joined-continued
+
+pub comment-anywhere : CommentAnywhere
+comment-anywhere = joined-without
+
+pub reads-all : ReadsAll
+reads-all = from-start
+
+pub reads-on : ReadsOn
+reads-on = ahead
+
+pub lines-fit : LinesFit
+lines-fit = logical-total
+
+pub read-back : ReadBack
+read-back = logical-written
+
+pub lines-settled : LinesSettled
+lines-settled = logical-settled
+
+pub written-is-legal : WrittenLegal
+written-is-legal = written-legal

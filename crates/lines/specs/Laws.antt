@@ -1,0 +1,131 @@
+-- What the crates above rest on beside the promises: statements about the definitions, proved in
+-- proofs/Laws.antt.
+use mathlib.Core.Path.{_≡_}
+use Prim.Native.Nat.{ℕ, suc, _+_, _≤_, _<_}
+use mathlib.Core.Bool.{Bool, true, false, not, _&&_}
+use mathlib.Core.List.{List, [], _∷_, _++_}
+use lib.ListN.{length}
+use lib.Dec.{leb}
+use Rattle.lines.specs.Bytes.{Bytes, isLF, control, between, all}
+use Rattle.lines.specs.Utf8.{utf8, encoded}
+use Rattle.lines.specs.Lines.{Line, comment, continued, joinNext, joined, logical, written}
+use Rattle.lines.specs.Files.{size}
+use Rattle.lines.specs.Cursors.{firstCursor, logicalFrom, cursorPast}
+use Rattle.lines.specs.declared.joiner.Cursor.{Cursor}
+
+-- ---- UTF-8
+
+-- a byte below 80 parts a text into two that are judged by themselves
+abbrev pub Utf8Splits : Type 0
+Utf8Splits = (a : Bytes) (c : ℕ) (b : Bytes) → leb c 0x7F ≡ true → utf8 (a ++ c ∷ b) ≡ (utf8 a && utf8 b)
+
+-- behind a well-formed text the rest is judged by itself
+abbrev pub Utf8Appends : Type 0
+Utf8Appends = (a b : Bytes) → utf8 a ≡ true → utf8 (a ++ b) ≡ utf8 b
+
+-- the bytes of a code point are well-formed
+abbrev pub EncodedUtf8 : Type 0
+EncodedUtf8 = (n : ℕ) → n ≤ 0x10FFFF → between 0xD800 0xDFFF n ≡ false → utf8 (encoded n) ≡ true
+
+-- ---- one more physical line in front
+
+-- a comment changes nothing
+abbrev pub CommentDropped : Type 0
+CommentDropped = (l : Line) (ls : List Line) → comment (l .bytes) ≡ true → joined (l ∷ ls) ≡ joined ls
+
+-- a line that is not continued is a logical line
+abbrev pub LineKept : Type 0
+LineKept = (l : Line) (ls : List Line) → comment (l .bytes) ≡ false → continued (l .bytes) ≡ false
+    → joined (l ∷ ls) ≡ l ∷ joined ls
+
+-- a continued line takes the next logical line
+abbrev pub LineContinued : Type 0
+LineContinued = (l : Line) (ls : List Line) → comment (l .bytes) ≡ false → continued (l .bytes) ≡ true
+    → joined (l ∷ ls) ≡ joinNext l (joined ls)
+
+-- a comment may stand anywhere among the lines
+abbrev pub CommentAnywhere : Type 0
+CommentAnywhere = (a : List Line) (c : Line) (b : List Line) → comment (c .bytes) ≡ true → joined (a ++ c ∷ b) ≡ joined (a ++ b)
+
+-- ---- reading on
+
+-- from the first cursor on stand the logical lines of the file
+abbrev pub ReadsAll : Type 0
+ReadsAll = (f : Bytes) → logicalFrom f firstCursor ≡ logical f
+
+-- The line l is the next one at c. Behind it stand the lines from the cursor past it on. That cursor lies
+-- further on, in the file or at its end, and the line has no more bytes than were passed.
+pub record Ahead (f : Bytes) (c : Cursor) (l : Line) (ls : List Line) : Type 0 where
+  pub others : ls ≡ logicalFrom f (cursorPast f c l)
+  pub inside : cursorPast f c l .offset ≤ length f
+  pub later : c .offset < cursorPast f c l .offset
+  pub paid : c .offset + length (l .bytes) ≤ cursorPast f c l .offset
+  pub number : cursorPast f c l .line ≤ cursorPast f c l .offset + 1
+  pub first : c .line ≤ l .number
+
+abbrev pub ReadsOn : Type 0
+ReadsOn = (f : Bytes) (c : Cursor) (l : Line) (ls : List Line) → logicalFrom f c ≡ l ∷ ls → Ahead f c l ls
+
+-- ---- sizes
+
+-- the bytes of lines, with one each for their LF
+unfoldable pub total : List Line → ℕ
+total [] = 0
+total (l ∷ ls) = suc (length (l .bytes)) + total ls
+
+-- the logical lines are paid for by the file
+abbrev pub LinesFit : Type 0
+LinesFit = (f : Bytes) → total (logical f) ≤ size f
+
+-- ---- lines read back
+
+-- every element has the property
+abbrev pub All : {A : Type 0} → (A → Type 0) → List A → Type 0
+All P [] = Unit {0}
+All P (x ∷ xs) = P x × All P xs
+
+abbrev pub bytesOf : List Line → List Bytes
+bytesOf [] = []
+bytesOf (l ∷ ls) = l .bytes ∷ bytesOf ls
+
+unfoldable pub noLF : Bytes → Bool
+unfolding all
+noLF l = all (λ b. not (isLF b)) l
+
+-- a line that stands for itself: no LF, no comment, no odd closing run
+pub record Whole (l : Bytes) : Type 0 where
+  pub one : noLF l ≡ true
+  pub kept : comment l ≡ false
+  pub ends : continued l ≡ false
+
+-- such lines written out have themselves as their logical lines
+abbrev pub ReadBack : Type 0
+ReadBack = (ls : List Bytes) → All Whole ls → bytesOf (logical (written ls)) ≡ ls
+
+-- ---- legal lines
+
+-- not a control byte
+abbrev pub plain : ℕ → Bool
+plain b = not (control b)
+
+-- a byte that may stand in a line
+abbrev pub lineByte : ℕ → Bool
+lineByte b = plain b && not (isLF b)
+
+-- UTF-8, with neither LF nor a control byte
+pub record Legal (l : Bytes) : Type 0 where
+  pub characters : utf8 l ≡ true
+  pub bytes : all lineByte l ≡ true
+
+-- legal, and ending in no odd run of backslashes
+pub record Settled (l : Bytes) : Type 0 where
+  pub legal : Legal l
+  pub ends : continued l ≡ false
+
+-- the logical lines of a legal file are so
+abbrev pub LinesSettled : Type 0
+LinesSettled = (f : Bytes) → utf8 f ≡ true → all plain f ≡ true → All (λ (l : Line). Settled (l .bytes)) (logical f)
+
+-- legal lines written out are a legal file
+abbrev pub WrittenLegal : Type 0
+WrittenLegal = (ls : List Bytes) → All Legal ls → (utf8 (written ls) ≡ true) × (all plain (written ls) ≡ true)
