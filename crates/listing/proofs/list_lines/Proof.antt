@@ -13,6 +13,9 @@ Inv-loop file buffer₀ most cursor₀ counter₀ buffer cursor counter = (count
 abbrev μ-loop : tie.MeasureT-loop
 μ-loop file buffer₀ most cursor₀ counter₀ buffer cursor counter = 65536 - counter
 
+first-requires : tie.Need-first-requires Inv-loop μ-loop
+first-requires c κs = search needs
+
 loop-holds : tie.Need-loop-holds Inv-loop μ-loop
 loop-holds c = search needs
 
@@ -52,6 +55,7 @@ list-lines-spec =
     (tie.spec
     Inv-loop
     μ-loop
+    first-requires
     loop-holds
     list-line-requires
     enum-known-next
