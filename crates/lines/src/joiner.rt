@@ -2,7 +2,6 @@
 use crate::bytes::copy_into;
 use crate::error::Error;
 ghost use mathlib.Core.Path.{_≡_};
-ghost use mathlib.Core.Bool.{Bool, true, false};
 ghost use Prim.Native.Nat.{_+_, _≤_, _<_};
 ghost use lib.ListN.{length, drop};
 ghost use Rattle.lines.specs.Lines.{comment, continued};
@@ -38,21 +37,21 @@ pub enum Next {
 }
 
 // The end of a physical line, without its LF, and where the next one starts.
-pub struct Physical {
-    pub end: usize,
-    pub next: Cursor,
+struct Physical {
+    end: usize,
+    next: Cursor,
 }
 
 // How many bytes a physical line gives to its logical line, and whether it ends that one.
-pub struct Piece {
-    pub length: usize,
-    pub ends: bool,
+struct Piece {
+    length: usize,
+    ends: bool,
 }
 
 // A logical line's length, and where the next one starts.
-pub struct Measured {
-    pub length: usize,
-    pub next: Cursor,
+struct Measured {
+    length: usize,
+    next: Cursor,
 }
 
 // The offset of the first LF from `at` on, or the file's end.
