@@ -1,6 +1,7 @@
 -- Bool tests taken apart and put together; the laws of `all`, `any` and `equal`.
 use mathlib.Core.Path.{_≡_, refl, sym, ap, _∙_}
 use Prim.Native.Nat.{ℕ}
+use native.Mathlib.Omega.{arith}
 use mathlib.Core.Bool.{Bool, true, false, not, _&&_, _||_, false≢true}
 use mathlib.Core.List.{[], _∷_, _++_}
 use lib.Dec.{eqb}
@@ -19,6 +20,10 @@ or-cases false b e f g = g e
 
 pub impossible {ℓ} : {X : Type ℓ} → false ≡ true → X
 impossible e = absurd (false≢true e)
+
+-- two constructors are never equal
+pub clash {ℓ} : {X : Type ℓ} → _≡_ {A = ℕ} 0 1 → X
+clash e = absurd (omega arith)
 
 pub is-false : (b : Bool) → (b ≡ true → ⊥) → b ≡ false
 is-false true f = absurd (f refl)
@@ -50,11 +55,7 @@ pub not-true : (a : Bool) → not a ≡ true → a ≡ false
 not-true true e = sym e
 not-true false e = refl
 
-pub not-not : (a : Bool) → not (not a) ≡ a
-not-not true = refl
-not-not false = refl
-
--- a byte that passes is none that fails
+-- a byte that passes differs from one that fails
 pub neq-byte : (p : ℕ → Bool) (c b : ℕ) → p c ≡ false → p b ≡ true → eqb b c ≡ false
 neq-byte p c b no-c yes-b = is-false (eqb b c) (λ e. impossible (sym no-c ∙ ap p (sym (eqb-true b c e)) ∙ yes-b))
 
@@ -70,7 +71,7 @@ unfolding all
 all-imp p q f [] h = refl
 all-imp p q f (b ∷ bs) h = both (q b) (all q bs) (f b (and-left (p b) (all p bs) h)) (all-imp p q f bs (and-right (p b) (all p bs) h))
 
--- no byte passes where every byte fails
+-- some byte passes exactly where not every byte fails
 pub any-all : (p : ℕ → Bool) (l : Bytes) → any p l ≡ not (all (λ b. not (p b)) l)
 unfolding any all
 any-all p [] = refl
@@ -78,15 +79,15 @@ any-all p (b ∷ bs) = by-cases (p b) (λ e. rw e) (λ e. rw e (any-all p bs))
 
 -- ---- equal
 
-pub same-eq : (a b : Bytes) → equal a b ≡ true → a ≡ b
+pub equal-eq : (a b : Bytes) → equal a b ≡ true → a ≡ b
 unfolding equal
-same-eq [] [] e = refl
-same-eq [] (c ∷ cs) e = impossible e
-same-eq (b ∷ bs) [] e = impossible e
-same-eq (b ∷ bs) (c ∷ cs) e =
-    rw (eqb-true b c (and-left (eqb b c) (equal bs cs) e), same-eq bs cs (and-right (eqb b c) (equal bs cs) e))
+equal-eq [] [] e = refl
+equal-eq [] (c ∷ cs) e = impossible e
+equal-eq (b ∷ bs) [] e = impossible e
+equal-eq (b ∷ bs) (c ∷ cs) e =
+    rw (eqb-true b c (and-left (eqb b c) (equal bs cs) e), equal-eq bs cs (and-right (eqb b c) (equal bs cs) e))
 
-pub same-refl : (a : Bytes) → equal a a ≡ true
+pub equal-refl : (a : Bytes) → equal a a ≡ true
 unfolding equal
-same-refl [] = refl
-same-refl (b ∷ bs) = both (eqb b b) (equal bs bs) (eq-eqb b b refl) (same-refl bs)
+equal-refl [] = refl
+equal-refl (b ∷ bs) = both (eqb b b) (equal bs bs) (eq-eqb b b refl) (equal-refl bs)

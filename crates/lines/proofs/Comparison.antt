@@ -1,4 +1,4 @@
--- Laws of `same` for a loop over two texts: what is left from an index on is compared by its first bytes.
+-- Laws of `equal` for a loop over two texts: what is left from an index on is compared by its first bytes.
 use mathlib.Core.Path.{_≡_, ap}
 use Prim.Native.Nat.{ℕ, _+_, _≤_, _<_}
 use native.Mathlib.Numerals.{add-one}
@@ -7,17 +7,17 @@ use lib.ListN.{length, drop, getD, drop-of-length-le}
 use lib.Seq.{drop-cons}
 use lib.Dec.{eqb}
 use Rattle.lines.specs.Bytes.{Bytes, equal}
-use Rattle.lines.proofs.Bools.{same-eq}
+use Rattle.lines.proofs.Bools.{equal-eq}
 
-pub same-length : (a b : Bytes) → equal a b ≡ true → length a ≡ length b
-same-length a b e = ap length (same-eq a b e)
+pub equal-length : (a b : Bytes) → equal a b ≡ true → length a ≡ length b
+equal-length a b e = ap length (equal-eq a b e)
 
 -- the bytes at an index decide, or what comes after them
-pub same-here : (a b : Bytes) (i : ℕ) → i < length a → i < length b
+pub equal-here : (a b : Bytes) (i : ℕ) → i < length a → i < length b
     → equal (drop i a) (drop i b) ≡ (eqb (getD a i 0) (getD b i 0) && equal (drop (i + 1) a) (drop (i + 1) b))
 unfolding equal
-same-here a b i h k = rw (add-one, drop-cons a i 0 h, drop-cons b i 0 k)
+equal-here a b i h k = rw (add-one, drop-cons a i 0 h, drop-cons b i 0 k)
 
-pub same-done : (a b : Bytes) (i : ℕ) → length a ≤ i → length b ≤ i → equal (drop i a) (drop i b) ≡ true
+pub equal-done : (a b : Bytes) (i : ℕ) → length a ≤ i → length b ≤ i → equal (drop i a) (drop i b) ≡ true
 unfolding equal
-same-done a b i h k = rw (drop-of-length-le a h, drop-of-length-le b k)
+equal-done a b i h k = rw (drop-of-length-le a h, drop-of-length-le b k)

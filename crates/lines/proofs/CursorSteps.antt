@@ -18,23 +18,23 @@ use Rattle.lines.proofs.Bools.{by-cases}
 use Rattle.lines.proofs.LineFeeds.{lineFeeds-append, lineFeeds-length}
 use Rattle.lines.proofs.Physicals.{lineFeeds-none, lineLength-le, line-noLF, line-then, line-alone, physical-shut, physical-open, comment-line}
 
-pub stretch-length : (a e : ℕ) (f : Bytes) → e ≤ length f → length (bytesBetween a e f) ≡ e - a
-stretch-length a e f h = length-take-le (e - a) (drop a f) (simp length-drop (omega arith))
+pub bytesBetween-length : (a e : ℕ) (f : Bytes) → e ≤ length f → length (bytesBetween a e f) ≡ e - a
+bytesBetween-length a e f h = length-take-le (e - a) (drop a f) (simp length-drop (omega arith))
 
-pub stretch-append : (a b e : ℕ) (f : Bytes) → a ≤ b → b ≤ e → bytesBetween a e f ≡ bytesBetween a b f ++ bytesBetween b e f
-stretch-append a b e f h k =
+pub bytesBetween-append : (a b e : ℕ) (f : Bytes) → a ≤ b → b ≤ e → bytesBetween a e f ≡ bytesBetween a b f ++ bytesBetween b e f
+bytesBetween-append a b e f h k =
     let s : e - a ≡ (b - a) + (e - b) = omega arith in
     let d : a + (b - a) ≡ b = omega arith in
     ap (λ (n : ℕ). take n (drop a f)) s ∙ take-add (b - a) (e - b) (drop a f)
     ∙ ap (λ (r : Bytes). bytesBetween a b f ++ take (e - b) r) (drop-drop (b - a) a f ∙ ap (λ (n : ℕ). drop n f) d)
 
-stretch-none : (a : ℕ) (f : Bytes) → bytesBetween a a f ≡ []
-stretch-none a f = let e : a - a ≡ 0 = omega arith in rw e
+bytesBetween-none : (a : ℕ) (f : Bytes) → bytesBetween a a f ≡ []
+bytesBetween-none a f = let e : a - a ≡ 0 = omega arith in rw e
 
 module _ (f : Bytes) where
   pub onward-here : (c : Cursor) → c .offset ≤ length f → Onward f c c
   unfolding lineFeeds
-  onward-here c h = record { inside = h; onward = omega arith; counted = rw stretch-none (omega arith) }
+  onward-here c h = record { inside = h; onward = omega arith; counted = rw bytesBetween-none (omega arith) }
 
   pub onward-more : (c d e : Cursor) → Onward f c d → Onward f d e → Onward f c e
   onward-more c d e h k = record {
@@ -46,14 +46,14 @@ module _ (f : Bytes) where
           arith,
           h .counted,
           lineFeeds-append (bytesBetween (c .offset) (d .offset) f) (bytesBetween (d .offset) (e .offset) f),
-          ap lineFeeds (stretch-append (c .offset) (d .offset) (e .offset) f (h .onward) (k .onward)),
+          ap lineFeeds (bytesBetween-append (c .offset) (d .offset) (e .offset) f (h .onward) (k .onward)),
         );
   }
 
   -- the line number stays at most the offset and one
   pub onward-number : (c d : Cursor) → c .line ≤ c .offset + 1 → Onward f c d → d .line ≤ d .offset + 1
   onward-number c d h k =
-      omega (arith, k .counted, k .onward, lineFeeds-length (bytesBetween (c .offset) (d .offset) f), stretch-length (c .offset) (d .offset) f (k .inside))
+      omega (arith, k .counted, k .onward, lineFeeds-length (bytesBetween (c .offset) (d .offset) f), bytesBetween-length (c .offset) (d .offset) f (k .inside))
 
 -- the physical line at a cursor, by the offset where it ends
 module _ (f : Bytes) (c : Cursor) (e : ℕ) (at : At f c) (is : e ≡ c .offset + lineLength (drop (c .offset) f)) where

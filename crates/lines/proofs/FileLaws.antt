@@ -8,26 +8,26 @@ use mathlib.Core.List.{[], _∷_, _++_}
 use lib.ListN.{length, take, drop, getD, length-drop, take-append-drop}
 use lib.Seq.{drop-cons, take-add, take-all, length-take-le}
 use lib.Dec.{ltb, eqb, leb·zero, eqb·suc-zero}
-use borrow.Author.Tests.{leb-true, lt-leb, lt-ltb, le-ltb, ne-eqb}
-use Rattle.lines.specs.Laws.{plain}
-use Rattle.lines.specs.Bytes.{Bytes, isLF, control, all, lineFeeds}
-use Rattle.lines.specs.Utf8.{utf8, well}
+use borrow.Author.Tests.{ltb-false, not-false, leb-true, lt-leb, lt-ltb, le-ltb, ne-eqb}
+use Rattle.lines.specs.Laws.{plain, Sound}
+use Rattle.lines.specs.Bytes.{Bytes, any, isLF, control, all, lineFeeds}
+use Rattle.lines.specs.Utf8.{utf8, well, longestStart}
 use Rattle.lines.specs.CharSteps.{charLength, lineAfter, controlAfter}
 use Rattle.lines.specs.Answers.{accepted, refused}
-use Rattle.lines.specs.Files.{unterminated, size, lineAt, firstControl, checkedBytes}
-use Rattle.lines.proofs.Bools.{by-cases, any-all, and-left, and-right, all-append, all-imp, not-true, impossible}
+use Rattle.lines.specs.Files.{checkedFile, unterminated, size, lineAt, firstControl, checkedBytes}
+use Rattle.lines.proofs.Bools.{by-cases, clash, any-all, and-left, and-right, all-append, all-imp, not-true, impossible}
 use Rattle.lines.proofs.LineFeeds.{lineFeeds-append, lineFeeds-length}
 use Rattle.lines.proofs.Utf8Laws.{highByte, Character, character, utf8-append, not-utf8, start-ends}
 
 -- ---- size
 
-ends-open : (f : Bytes) (n : ℕ) → length f ≡ suc n → unterminated f ≡ not (isLF (getD f n 0))
+unterminated-at : (f : Bytes) (n : ℕ) → length f ≡ suc n → unterminated f ≡ not (isLF (getD f n 0))
 unfolding unterminated
-ends-open [] n e = absurd (omega arith)
-ends-open (b ∷ []) zero e = refl
-ends-open (b ∷ []) (suc n) e = absurd (omega arith)
-ends-open (b ∷ c ∷ cs) zero e = absurd (omega arith)
-ends-open (b ∷ c ∷ cs) (suc n) e = ends-open (c ∷ cs) n (omega arith)
+unterminated-at [] n e = absurd (omega arith)
+unterminated-at (b ∷ []) zero e = refl
+unterminated-at (b ∷ []) (suc n) e = absurd (omega arith)
+unterminated-at (b ∷ c ∷ cs) zero e = absurd (omega arith)
+unterminated-at (b ∷ c ∷ cs) (suc n) e = unterminated-at (c ∷ cs) n (omega arith)
 
 pub size-below : (n : ℕ) (f : Bytes) → length f < n → ltb n (size f) ≡ false
 unfolding size
@@ -48,8 +48,8 @@ pub size-at : (n : ℕ) (f : Bytes) → length f ≡ suc n → ltb (suc n) (size
 unfolding size
 size-at n f h =
     by-cases (unterminated f)
-    (λ e. rw (e, ← ends-open f n h, e) (lt-ltb (suc n) (length f + 1) (omega arith)))
-    (λ e. rw (e, ← ends-open f n h, e) (le-ltb (suc n) (length f) (omega arith)))
+    (λ e. rw (e, ← unterminated-at f n h, e) (lt-ltb (suc n) (length f + 1) (omega arith)))
+    (λ e. rw (e, ← unterminated-at f n h, e) (le-ltb (suc n) (length f) (omega arith)))
 
 -- ---- bytes 80 and above: no LF, no control byte
 
@@ -129,9 +129,9 @@ pub record Passed (f : Bytes) (i line found : ℕ) : Type 0 where
   pub lines : line ≡ lineAt i f
   pub first : found ≡ controlLine (take i f)
 
-pub start : (f : Bytes) → Passed f 0 1 0
+pub passed-start : (f : Bytes) → Passed f 0 1 0
 unfolding utf8 well lineAt lineFeeds controlLine all
-start f = record { inside = zero-le; legal = refl; lines = refl; first = refl }
+passed-start f = record { inside = zero-le; legal = refl; lines = refl; first = refl }
 
 -- each line but the first begins after an LF
 pub line-fits : {f : Bytes} {i line found : ℕ} → Passed f i line found → line ≤ i + 1
@@ -139,11 +139,11 @@ unfolding lineAt
 line-fits {f} {i} p = omega (arith, p .lines, lineFeeds-length (take i f), length-take-le i f (p .inside))
 
 -- a character of n bytes more
-pub go : {f : Bytes} {i line found : ℕ} (n : ℕ) → Passed f i line found → i < length f
+pub passed-more : {f : Bytes} {i line found : ℕ} (n : ℕ) → Passed f i line found → i < length f
     → n ≡ charLength (drop i f) → (n ≡ 0 → ⊥)
     → Passed f (i + n) (lineAfter line (getD f i 0)) (controlAfter found line (getD f i 0))
-go zero p h e ne = absurd (ne refl)
-go {f} {i} (suc k) p h e ne = record {
+passed-more zero p h e ne = absurd (ne refl)
+passed-more {f} {i} (suc k) p h e ne = record {
   inside = omega (arith, char .fits, length-drop (suc i) f);
   legal = rw more (utf8-append (take i f) (b ∷ t) (p .legal) ∙ char .legal);
   lines = unfold lineAt in rw (more, feeds-more (take i f) b t (char .rest), p .lines);
@@ -163,22 +163,48 @@ go {f} {i} (suc k) p h e ne = record {
     more = take-add i (suc k) f ∙ ap (λ (l : Bytes). take i f ++ take (suc k) l) (drop-cons f i 0 h)
 
 -- no character stands there: refused with 3
-pub broken : {f : Bytes} {i line found : ℕ} → Passed f i line found → i < length f → charLength (drop i f) ≡ 0
+pub passed-broken : {f : Bytes} {i line found : ℕ} → Passed f i line found → i < length f → charLength (drop i f) ≡ 0
     → checkedBytes f ≡ refused 3 line
 unfolding checkedBytes
-broken {f} {i} p h e =
+passed-broken {f} {i} p h e =
     let u : utf8 f ≡ false =
     ap utf8 (sym (take-append-drop i f) ∙ ap (λ (l : Bytes). take i f ++ l) (drop-cons f i 0 h))
     ∙ not-utf8 (take i f) (getD f i 0) (drop (suc i) f) (p .legal) (ap charLength (sym (drop-cons f i 0 h)) ∙ e) in
     rw (u, start-ends f i (p .inside) (p .legal) e, p .lines)
 
 -- the file has ended: control bytes decide
-pub ended : {f : Bytes} {i line found : ℕ} → Passed f i line found → length f ≤ i
+pub passed-ended : {f : Bytes} {i line found : ℕ} → Passed f i line found → length f ≤ i
     → checkedBytes f ≡ cond (eqb found 0) (accepted tt) (refused 4 found)
 unfolding checkedBytes controlLine lineAt
-ended {f} {i} {found = found} p h =
+passed-ended {f} {i} {found = found} p h =
     let u : utf8 f ≡ true = ap utf8 (sym (take-all i f h)) ∙ p .legal in
     let c : found ≡ controlLine f = p .first ∙ ap controlLine (take-all i f h) in
     by-cases (all plain f)
     (λ e. rw (u, any-all control f, e, c, e))
     (λ e. rw (u, any-all control f, e, c, e, eqb·suc-zero))
+
+-- ---- accepted exactly where none of the three is met
+
+pub checked-sound : (f : Bytes) → checkedFile f ≡ accepted (tt {0}) → Sound f
+unfolding checkedFile checkedBytes
+checked-sound f e =
+    by-cases (ltb 65535 (size f))
+    (λ b. clash (let q : refused 2 0 ≡ accepted (tt {0}) = rw b at e in cc))
+    (λ b. characters b (rw b at e))
+  where
+    bytes : ltb 65535 (size f) ≡ false → utf8 f ≡ true → cond (any control f) (refused 4 (lineAt (firstControl f) f)) (accepted (tt {0})) ≡ accepted (tt {0}) → Sound f
+    bytes b u e =
+        by-cases (any control f)
+        (λ c. clash (let q : refused 4 (lineAt (firstControl f) f) ≡ accepted (tt {0}) = rw c at e in cc))
+        (λ c. record { short = ltb-false 65535 (size f) b; characters = u; bytes = not-false (all plain f) (sym (any-all control f) ∙ c) })
+
+    characters : ltb 65535 (size f) ≡ false
+        → cond (not (utf8 f)) (refused 3 (lineAt (longestStart f) f)) (cond (any control f) (refused 4 (lineAt (firstControl f) f)) (accepted (tt {0}))) ≡ accepted (tt {0}) → Sound f
+    characters b e =
+        by-cases (utf8 f)
+        (λ u. bytes b u (rw u at e))
+        (λ u. clash (let q : refused 3 (lineAt (longestStart f) f) ≡ accepted (tt {0}) = rw u at e in cc))
+
+pub sound-checked : (f : Bytes) → Sound f → checkedFile f ≡ accepted tt
+unfolding checkedFile checkedBytes
+sound-checked f s = rw (le-ltb 65535 (size f) (s .short), s .characters, any-all control f, s .bytes)

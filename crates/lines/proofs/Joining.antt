@@ -1,16 +1,16 @@
 -- What one more physical line does to the logical lines: a comment nothing, a continued line waits for
 -- what follows, any other is a logical line or completes the one that waits.
 use mathlib.Core.Path.{_≡_, refl, sym, ap, _∙_}
-use Prim.Native.Nat.{ℕ, _+_, _≤_}
+use Prim.Native.Nat.{ℕ, suc, _+_, _≤_}
 use native.Mathlib.Omega.{arith}
 use mathlib.Core.Bool.{true, false, not}
 use mathlib.Core.List.{List, [], _∷_, _++_, append-assoc, append-nil}
 use lib.ListN.{length, length-append}
 use Rattle.lines.specs.Laws.{bytesOf}
-use Rattle.lines.specs.Bytes.{Bytes}
-use Rattle.lines.specs.Lines.{Line, comment, continued, spaced, joinNext, joined}
+use Rattle.lines.specs.Bytes.{Bytes, isLF}
+use Rattle.lines.specs.Lines.{Line, prepend, physical, comment, continued, spaced, joinNext, joined}
 use Rattle.lines.specs.LineSteps.{piece, ends, firstBytes}
-use Rattle.lines.proofs.Bools.{by-cases, impossible}
+use Rattle.lines.proofs.Bools.{by-cases, impossible, clash}
 use Rattle.lines.proofs.Runs.{spaced-length}
 use Rattle.lines.proofs.Physicals.{openLine}
 
@@ -18,6 +18,10 @@ use Rattle.lines.proofs.Physicals.{openLine}
 unfoldable pub waiting : ℕ → Bytes → List Line → List Line
 waiting m a [] = openLine m a ∷ []
 waiting m a (k ∷ ks) = record { number = m; bytes = a ++ k .bytes; end = k .end } ∷ ks
+
+pub joined-nil : joined [] ≡ []
+unfolding joined
+joined-nil = refl
 
 module _ (l : Line) (ls : List Line) where
   pub joined-comment : comment (l .bytes) ≡ true → joined (l ∷ ls) ≡ joined ls
@@ -125,15 +129,15 @@ joined-without (l ∷ a) c b h = rw (joined-without a c b h)
 pub joined-same : (ls ks : List Line) → bytesOf ls ≡ bytesOf ks → bytesOf (joined ls) ≡ bytesOf (joined ks)
 unfolding joined
 joined-same [] [] e = refl
-joined-same [] (k ∷ ks) e = let y : _≡_ {A = ℕ} 0 1 = cc in absurd (omega arith)
-joined-same (l ∷ ls) [] e = let y : _≡_ {A = ℕ} 0 1 = cc in absurd (omega arith)
+joined-same [] (k ∷ ks) e = clash (cc)
+joined-same (l ∷ ls) [] e = clash (cc)
 joined-same (l ∷ ls) (k ∷ ks) e = go (cc) (joined-same ls ks (cc))
   where
-    follow-same : l .bytes ≡ k .bytes → (r q : List Line) → bytesOf r ≡ bytesOf q → bytesOf (joinNext l r) ≡ bytesOf (joinNext k q)
-    follow-same b [] [] i = unfold joinNext in (rw b)
-    follow-same b [] (x ∷ q) i = let y : _≡_ {A = ℕ} 0 1 = cc in absurd (omega arith)
-    follow-same b (x ∷ r) [] i = let y : _≡_ {A = ℕ} 0 1 = cc in absurd (omega arith)
-    follow-same b (x ∷ r) (z ∷ q) i =
+    joinNext-same : l .bytes ≡ k .bytes → (r q : List Line) → bytesOf r ≡ bytesOf q → bytesOf (joinNext l r) ≡ bytesOf (joinNext k q)
+    joinNext-same b [] [] i = unfold joinNext in (rw b)
+    joinNext-same b [] (x ∷ q) i = clash (cc)
+    joinNext-same b (x ∷ r) [] i = clash (cc)
+    joinNext-same b (x ∷ r) (z ∷ q) i =
         let h : x .bytes ≡ z .bytes = cc in
         let t : bytesOf r ≡ bytesOf q = cc in
         unfold joinNext in (rw (b, h, t))
@@ -142,5 +146,27 @@ joined-same (l ∷ ls) (k ∷ ks) e = go (cc) (joined-same ls ks (cc))
     go b i =
         by-cases (comment (k .bytes)) (λ c. rw (ap comment b ∙ c, c) i)
         (λ c. by-cases (continued (k .bytes))
-        (λ o. rw (ap comment b ∙ c, c, ap continued b ∙ o, o) (follow-same b (joined ls) (joined ks) i))
+        (λ o. rw (ap comment b ∙ c, c, ap continued b ∙ o, o) (joinNext-same b (joined ls) (joined ks) i))
         (λ o. rw (ap comment b ∙ c, c, ap continued b ∙ o, o, b, i)))
+
+-- physical lines of the same bytes
+prepend-same : (n m c : ℕ) (ls ks : List Line) → bytesOf ls ≡ bytesOf ks → bytesOf (prepend n c ls) ≡ bytesOf (prepend m c ks)
+unfolding prepend
+prepend-same n m c [] [] e = refl
+prepend-same n m c [] (k ∷ ks) e = clash (cc)
+prepend-same n m c (l ∷ ls) [] e = clash (cc)
+prepend-same n m c (l ∷ ls) (k ∷ ks) e =
+    let h : l .bytes ≡ k .bytes = cc in
+    let t : bytesOf ls ≡ bytesOf ks = cc in
+    rw (h, t)
+
+pub physical-same : (f : Bytes) (n a m b : ℕ) → bytesOf (physical n a f) ≡ bytesOf (physical m b f)
+unfolding physical
+physical-same [] n a m b = refl
+physical-same (c ∷ f) n a m b =
+    by-cases (isLF c)
+    (λ e. rw e (ap (λ (r : List Bytes). [] ∷ r) (physical-same f (suc n) (suc a) (suc m) (suc b))))
+    (λ e. rw e (prepend-same n m c (physical n (suc a) f) (physical m (suc b) f) (physical-same f n (suc a) m (suc b))))
+
+pub numbers-apart : (f : Bytes) (n a m b : ℕ) → bytesOf (joined (physical n a f)) ≡ bytesOf (joined (physical m b f))
+numbers-apart f n a m b = joined-same (physical n a f) (physical m b f) (physical-same f n a m b)

@@ -1,8 +1,11 @@
 -- The laws that specs/Laws.antt states, each by the module that proves it.
-use Rattle.lines.specs.Laws.{Utf8Splits, Utf8Appends, EncodedUtf8, CommentDropped, LineKept, LineContinued, CommentAnywhere, ReadsAll, ReadsOn, LinesFit, ReadBack, LinesSettled, WrittenLegal}
-use Rattle.lines.proofs.Utf8Laws.{utf8-split, utf8-append}
+use Rattle.lines.specs.Laws.{Utf8Splits, Utf8Appends, AsciiUtf8, EncodedUtf8, CheckedSound, SoundChecked, CommentDropped, LineKept, LineContinued, CommentAnywhere, NoComment, LinesAppend, NumbersApart, ReadsAll, ReadsOn, LinesFit, ReadBack, LinesSettled, WrittenLegal}
+use Rattle.lines.proofs.Utf8Laws.{utf8-split, utf8-append, utf8-ascii}
 use Rattle.lines.proofs.Encoded.{encoded-utf8}
-use Rattle.lines.proofs.Joining.{joined-comment, joined-line, joined-continued, joined-without}
+use Rattle.lines.proofs.FileLaws.{checked-sound, sound-checked}
+use Rattle.lines.proofs.Physicals.{no-comment}
+use Rattle.lines.proofs.Appending.{physical-append}
+use Rattle.lines.proofs.Joining.{joined-comment, joined-line, joined-continued, joined-without, numbers-apart}
 use Rattle.lines.proofs.Reading.{from-start, ahead}
 use Rattle.lines.proofs.Totals.{logical-total}
 use Rattle.lines.proofs.Whole.{logical-written}
@@ -14,8 +17,17 @@ utf8-splits = utf8-split
 pub utf8-appends : Utf8Appends
 utf8-appends = utf8-append
 
+pub ascii-utf8 : AsciiUtf8
+ascii-utf8 = utf8-ascii
+
 pub encoded-is-utf8 : EncodedUtf8
 encoded-is-utf8 = encoded-utf8
+
+pub checked-is-sound : CheckedSound
+checked-is-sound = checked-sound
+
+pub sound-is-checked : SoundChecked
+sound-is-checked = sound-checked
 
 pub comment-dropped : CommentDropped
 comment-dropped = joined-comment
@@ -28,6 +40,15 @@ line-continued = joined-continued
 
 pub comment-anywhere : CommentAnywhere
 comment-anywhere = joined-without
+
+pub not-a-comment : NoComment
+not-a-comment = no-comment
+
+pub lines-append : LinesAppend
+lines-append = physical-append
+
+pub numbers-decide-nothing : NumbersApart
+numbers-decide-nothing = numbers-apart
 
 pub reads-all : ReadsAll
 reads-all = from-start

@@ -13,7 +13,7 @@ use Rattle.lines.specs.Lines.{Line, physical, comment, continued, closin
 use Rattle.lines.proofs.Bools.{by-cases, and-left, and-right, both, all-append, all-imp}
 use Rattle.lines.proofs.Utf8Laws.{utf8-split, utf8-append, utf8-ascii}
 use Rattle.lines.proofs.Runs.{Spaced, is-spaced, continued-after}
-use Rattle.lines.proofs.Joining.{waiting, joined-comment, joined-line, joined-open}
+use Rattle.lines.proofs.Joining.{waiting, joined-nil, joined-comment, joined-line, joined-open}
 use Rattle.lines.proofs.Physicals.{physical-cons, physical-last, Cut, nothing, last, more, cut}
 
 pub legal-nil : Legal []
@@ -109,8 +109,7 @@ waiting-settled l [] h e k = (spaced-settled (l .bytes) h (is-spaced (l .bytes) 
 waiting-settled l (m ∷ ls) h e k = (spaced-then (l .bytes) h (is-spaced (l .bytes) e) (m .bytes) (k .0), k .1)
 
 pub joined-settled : (ls : List Line) → All LegalLine ls → All SettledLine (joined ls)
-unfolding joined
-joined-settled [] h = tt
+joined-settled [] h = subst (All SettledLine) (sym joined-nil) tt
 joined-settled (l ∷ ls) h =
     let ih : All SettledLine (joined ls) = joined-settled ls (h .1) in
     by-cases (comment (l .bytes))

@@ -12,7 +12,7 @@ use lib.Seq.{take-all, length-take-le, drop-cons}
 use lib.Dec.{eqb}
 use borrow.Author.Tests.{eqb-true}
 use Rattle.lines.specs.Laws.{noLF}
-use Rattle.lines.specs.Bytes.{Bytes, isLF, all, lineFeeds}
+use Rattle.lines.specs.Bytes.{Bytes, blank, isLF, all, lineFeeds}
 use Rattle.lines.specs.Lines.{Line, prepend, physical, comment}
 use Rattle.lines.specs.LineSteps.{lineLength}
 use Rattle.lines.proofs.Bools.{by-cases, and-left, and-right, not-true}
@@ -142,3 +142,7 @@ comment-first (b ∷ bs) = refl
 pub comment-line : (l rest : Bytes) → comment (l ++ 0x0A ∷ rest) ≡ comment l
 comment-line [] rest = comment-first (0x0A ∷ rest) ∙ sym (comment-first [])
 comment-line (b ∷ bs) rest = comment-first (b ∷ bs ++ 0x0A ∷ rest) ∙ sym (comment-first (b ∷ bs))
+
+-- whatever follows it
+pub no-comment : (b : ℕ) (bs : Bytes) → blank b ≡ false → eqb b 0x23 ≡ false → eqb b 0x3B ≡ false → comment (b ∷ bs) ≡ false
+no-comment b bs k h c = comment-first (b ∷ bs) ∙ rw (h, c)

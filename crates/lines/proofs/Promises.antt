@@ -16,7 +16,7 @@ use Rattle.lines.specs.Cursors.{logicalFrom, cursorPast, next, found, en
 use Rattle.lines.specs.declared.error.Error.{Error}
 use Rattle.lines.specs.declared.joiner.Cursor.{Cursor}
 use Rattle.lines.specs.declared.joiner.Next.the-variants.{Found, End, Refused}
-use Rattle.lines.proofs.Bools.{by-cases}
+use Rattle.lines.proofs.Bools.{by-cases, clash}
 use Rattle.lines.proofs.Reading.{ahead, next-short, next-none, next-found, next-long}
 
 -- ---- the four cases of the next line
@@ -40,9 +40,6 @@ case f c n =
         (λ b. long l ls h e (ltb-true _ _ b) (next-long f c n h l ls e (ltb-true _ _ b)))
         (λ b. line l ls h e (ltb-false _ _ b) (next-found f c n h l ls e (ltb-false _ _ b)))
 
-no : {X : Type 0} → _≡_ {A = ℕ} 0 1 → X
-no e = absurd (omega arith)
-
 -- ---- a line was found
 
 pub record FoundLine (f : Bytes) (c : Cursor) (before after : Bytes) (n m : ℕ) (d : Cursor) : Type 0 where
@@ -54,7 +51,7 @@ pub record FoundLine (f : Bytes) (c : Cursor) (before after : Bytes) (n m : ℕ)
   pub buffer : after ≡ filled (line .bytes) before
   pub inside : d .offset ≤ length f
   pub later : c .offset < d .offset
-  pub paid : c .offset + n ≤ d .offset
+  pub shorter : c .offset + n ≤ d .offset
 
 -- ---- the next line is too long
 
@@ -74,9 +71,9 @@ module _ (f : Bytes) (c : Cursor) (before after : Bytes) where
   found-line n m d p = go (case f c (length before))
     where
       go : Case f c (length before) → FoundLine f c before after n m d
-      go (short h e) = let q : accepted (found n m d) ≡ refused 1 0 = p .answer ∙ ap (answerFor f c) e in no (cc)
-      go (over h v e) = let q : accepted (found n m d) ≡ accepted ended = p .answer ∙ ap (answerFor f c) e in no (cc)
-      go (long l ls h v b e) = let q : accepted (found n m d) ≡ refused 5 (l .number) = p .answer ∙ ap (answerFor f c) e in no (cc)
+      go (short h e) = let q : accepted (found n m d) ≡ refused 1 0 = p .answer ∙ ap (answerFor f c) e in clash (cc)
+      go (over h v e) = let q : accepted (found n m d) ≡ accepted ended = p .answer ∙ ap (answerFor f c) e in clash (cc)
+      go (long l ls h v b e) = let q : accepted (found n m d) ≡ refused 5 (l .number) = p .answer ∙ ap (answerFor f c) e in clash (cc)
       go (line l ls h v b e) =
           let q : accepted (found n m d) ≡ accepted (found (length (l .bytes)) (l .number) (cursorPast f c l)) = p .answer ∙ ap (answerFor f c) e in
           let qn : length (l .bytes) ≡ n = cc in
@@ -92,18 +89,18 @@ module _ (f : Bytes) (c : Cursor) (before after : Bytes) where
             buffer = p .buffer ∙ ap (λ (o : Outcome (Option Line)). filled (bytesFor o) before) e;
             inside = rw qd at (a .inside);
             later = rw qd at (a .later);
-            paid = omega (arith, qn, a .paid, ap (λ (x : Cursor). x .offset) qd);
+            shorter = omega (arith, qn, a .shorter, ap (λ (x : Cursor). x .offset) qd);
           }
 
   pub ended-line : NextLine f c before after End → (logicalFrom f c ≡ []) × (after ≡ before)
   ended-line p = go (case f c (length before))
     where
       go : Case f c (length before) → (logicalFrom f c ≡ []) × (after ≡ before)
-      go (short h e) = let q : accepted ended ≡ refused 1 0 = p .answer ∙ ap (answerFor f c) e in no (cc)
+      go (short h e) = let q : accepted ended ≡ refused 1 0 = p .answer ∙ ap (answerFor f c) e in clash (cc)
       go (over h v e) = (v, p .buffer ∙ ap (λ (o : Outcome (Option Line)). filled (bytesFor o) before) e)
-      go (long l ls h v b e) = let q : accepted ended ≡ refused 5 (l .number) = p .answer ∙ ap (answerFor f c) e in no (cc)
+      go (long l ls h v b e) = let q : accepted ended ≡ refused 5 (l .number) = p .answer ∙ ap (answerFor f c) e in clash (cc)
       go (line l ls h v b e) =
-          let q : accepted ended ≡ accepted (found (length (l .bytes)) (l .number) (cursorPast f c l)) = p .answer ∙ ap (answerFor f c) e in no (cc)
+          let q : accepted ended ≡ accepted (found (length (l .bytes)) (l .number) (cursorPast f c l)) = p .answer ∙ ap (answerFor f c) e in clash (cc)
 
   -- with a buffer that is long enough
   pub long-line : (e : Error) → 4096 ≤ length before → NextLine f c before after (Refused e) → LongLine f c before after e
@@ -111,7 +108,7 @@ module _ (f : Bytes) (c : Cursor) (before after : Bytes) where
     where
       go : Case f c (length before) → LongLine f c before after e
       go (short h k) = absurd (omega arith)
-      go (over h v k) = let q : refused (numberOf e) (placeOf e) ≡ accepted ended = p .answer ∙ ap (answerFor f c) k in no (cc)
+      go (over h v k) = let q : refused (numberOf e) (placeOf e) ≡ accepted ended = p .answer ∙ ap (answerFor f c) k in clash (cc)
       go (long l ls h v b k) =
           let q : refused (numberOf e) (placeOf e) ≡ refused 5 (l .number) = p .answer ∙ ap (answerFor f c) k in
           record {
@@ -124,4 +121,4 @@ module _ (f : Bytes) (c : Cursor) (before after : Bytes) where
             kept = p .buffer ∙ ap (λ (o : Outcome (Option Line)). filled (bytesFor o) before) k;
           }
       go (line l ls h v b k) =
-          let q : refused (numberOf e) (placeOf e) ≡ accepted (found (length (l .bytes)) (l .number) (cursorPast f c l)) = p .answer ∙ ap (answerFor f c) k in no (cc)
+          let q : refused (numberOf e) (placeOf e) ≡ accepted (found (length (l .bytes)) (l .number) (cursorPast f c l)) = p .answer ∙ ap (answerFor f c) k in clash (cc)

@@ -23,9 +23,9 @@ use Rattle.lines.specs.declared.joiner.Next.{Next}
 use Rattle.lines.specs.declared.joiner.Physical.{Physical}
 use Rattle.lines.specs.declared.joiner.Piece.{Piece}
 use Rattle.lines.specs.declared.joiner.Measured.{Measured}
-use Rattle.lines.proofs.Bools.{by-cases}
+use Rattle.lines.proofs.Bools.{by-cases, clash}
 use Rattle.lines.proofs.LineFeeds.{lineFeeds-append}
-use Rattle.lines.proofs.CursorSteps.{onward-here, onward-more, onward-number, stretch-append, some-line}
+use Rattle.lines.proofs.CursorSteps.{onward-here, onward-more, onward-number, bytesBetween-append, some-line}
 use Rattle.lines.proofs.Walk.{Walk, walk-start, walk-more, measured-line, measured-over, lines-none, skip-more, comment-over}
 
 -- ---- cursors that have lines, and that have none
@@ -85,7 +85,7 @@ past-skipped f c s m k is =
     let ll : m .next .line ≡ s .line + lineFeeds (bytesBetween (s .offset) e f) = ap (λ (x : Cursor). x .line) (is .next-is) in
     let le : s .offset ≤ e = omega (arith, is .later) in
     let q : c .line + lineFeeds (bytesBetween (c .offset) e f) ≡ s .line + lineFeeds (bytesBetween (s .offset) e f) =
-    omega (arith, k .onward .counted, ap lineFeeds (stretch-append (c .offset) (s .offset) e f (k .onward .onward) le), lineFeeds-append (bytesBetween (c .offset) (s .offset) f) (bytesBetween (s .offset) e f)) in
+    omega (arith, k .onward .counted, ap lineFeeds (bytesBetween-append (c .offset) (s .offset) e f (k .onward .onward) le), lineFeeds-append (bytesBetween (c .offset) (s .offset) f) (bytesBetween (s .offset) e f)) in
     rw q (sym (is .next-is))
 
 -- ---- the answer, where a valid cursor c has been taken past comments to s
@@ -104,8 +104,8 @@ module _ (f : Bytes) (c s : Cursor) (n : ℕ) (room : 4096 ≤ n) (v : c .line �
     pub next-too-long : 4096 < m .length → next f c n ≡ refused 5 (s .line)
     next-too-long h = next-long f c n room (is .line) (linesAt f (m .next)) from-measured (omega (arith, is .length-is)) ∙ ap (refused 5) (is .number-is)
 
-    pub told-measured : accepted (found (m .length) (s .line) (m .next)) ≡ answerFor f c (accepted (some (is .line)))
-    told-measured = rw (is .length-is, sym (is .number-is), sym (past-skipped f c s m k is))
+    pub answer-measured : accepted (found (m .length) (s .line) (m .next)) ≡ answerFor f c (accepted (some (is .line)))
+    answer-measured = rw (is .length-is, sym (is .number-is), sym (past-skipped f c s m k is))
 
 -- ---- the view of the lines from a cursor on, by recursion on what is left of the file
 
@@ -156,7 +156,7 @@ view f c =
             others = refl;
             inside = rw p (is .onward .inside);
             later = rw p (omega (arith, is .later, k .onward .onward));
-            paid = rw p (omega (arith, is .paid, is .length-is, k .onward .onward));
+            shorter = rw p (omega (arith, is .shorter, is .length-is, k .onward .onward));
             number = rw p nv;
             first = omega (arith, is .number-is, k .onward .counted);
           },
@@ -175,10 +175,7 @@ pub ahead : (f : Bytes) (c : Cursor) (l : Line) (ls : List Line) → logicalFrom
 ahead f c l ls e = go (view f c)
   where
     go : (logicalFrom f c ≡ []) ⊎ ((k : Line) × (logicalFrom f c ≡ k ∷ logicalFrom f (cursorPast f c k)) × Ahead f c k (logicalFrom f (cursorPast f c k))) → Ahead f c l ls
-    go (inl q) = absurd (no-line (sym q ∙ e))
-      where
-        no-line : [] ≡ l ∷ ls → ⊥
-        no-line z = let y : _≡_ {A = ℕ} 0 1 = cc in omega arith
+    go (inl q) = let z : [] ≡ l ∷ ls = sym q ∙ e in clash (cc)
     go (inr t) =
         let x : l ∷ ls ≡ t .0 ∷ logicalFrom f (cursorPast f c (t .0)) = sym e ∙ t .1 in
         let a : t .0 ≡ l = cc in

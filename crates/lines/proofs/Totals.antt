@@ -12,33 +12,33 @@ use Rattle.lines.specs.Lines.{Line, physical, comment, continued, spaced
 use Rattle.lines.specs.Files.{unterminated, size}
 use Rattle.lines.proofs.Bools.{by-cases, and-left, and-right}
 use Rattle.lines.proofs.Runs.{spaced-length}
-use Rattle.lines.proofs.Joining.{waiting, joined-comment, joined-line, joined-open}
+use Rattle.lines.proofs.Joining.{waiting, joined-nil, joined-comment, joined-line, joined-open}
 use Rattle.lines.proofs.Physicals.{physical-cons, physical-last, Cut, nothing, last, more, cut}
 
 -- ---- physical lines
 
-pub open-last : (b : ℕ) (bs : Bytes) → noLF (b ∷ bs) ≡ true → unterminated (b ∷ bs) ≡ true
+pub unterminated-last : (b : ℕ) (bs : Bytes) → noLF (b ∷ bs) ≡ true → unterminated (b ∷ bs) ≡ true
 unfolding unterminated noLF all
-open-last b [] h = and-left (not (isLF b)) true h
-open-last b (c ∷ cs) h = open-last c cs (and-right (not (isLF b)) (noLF (c ∷ cs)) h)
+unterminated-last b [] h = and-left (not (isLF b)) true h
+unterminated-last b (c ∷ cs) h = unterminated-last c cs (and-right (not (isLF b)) (noLF (c ∷ cs)) h)
 
-pub open-more : (l rest : Bytes) → unterminated (l ++ 0x0A ∷ rest) ≡ unterminated rest
+pub unterminated-more : (l rest : Bytes) → unterminated (l ++ 0x0A ∷ rest) ≡ unterminated rest
 unfolding unterminated
-open-more [] [] = refl
-open-more [] (c ∷ cs) = refl
-open-more (b ∷ []) rest = open-more [] rest
-open-more (b ∷ c ∷ l) rest = open-more (c ∷ l) rest
+unterminated-more [] [] = refl
+unterminated-more [] (c ∷ cs) = refl
+unterminated-more (b ∷ []) rest = unterminated-more [] rest
+unterminated-more (b ∷ c ∷ l) rest = unterminated-more (c ∷ l) rest
 
 size-more : (l rest : Bytes) → size (l ++ 0x0A ∷ rest) ≡ suc (length l) + size rest
 unfolding size
 size-more l rest =
     let n : length (l ++ 0x0A ∷ rest) ≡ length l + suc (length rest) = length-append l (0x0A ∷ rest) in
-    rw (open-more l rest) (by-cases (unterminated rest) (λ e. rw e (omega arith)) (λ e. rw e (omega arith)))
+    rw (unterminated-more l rest) (by-cases (unterminated rest) (λ e. rw e (omega arith)) (λ e. rw e (omega arith)))
 
 total-cut : (n a : ℕ) (f : Bytes) → Cut f → total (physical n a f) ≡ size f
 unfolding total physical size unterminated
 total-cut n a f nothing = refl
-total-cut n a f (last b bs h) = ap total (physical-last b bs n a h) ∙ rw (open-last b bs h) (omega arith)
+total-cut n a f (last b bs h) = ap total (physical-last b bs n a h) ∙ rw (unterminated-last b bs h) (omega arith)
 total-cut n a f (more l rest h k) =
     ap total (physical-cons l rest n a h)
     ∙ ap (λ (t : ℕ). suc (length l) + t) (total-cut (suc n) (suc (a + length l)) rest k)
@@ -55,8 +55,8 @@ waiting-total m a [] = omega arith
 waiting-total m a (k ∷ ks) = omega (arith, length-append a (k .bytes))
 
 pub joined-total : (ls : List Line) → total (joined ls) ≤ total ls
-unfolding joined total
-joined-total [] = omega arith
+unfolding total
+joined-total [] = omega (arith, ap total joined-nil)
 joined-total (l ∷ ls) =
     let ih : total (joined ls) ≤ total ls = joined-total ls in
     by-cases (comment (l .bytes))

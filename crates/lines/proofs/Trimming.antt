@@ -17,9 +17,9 @@ pub trimStart-blank : (b : ℕ) (bs : Bytes) → blank b ≡ true → trimStart 
 unfolding trimStart
 trimStart-blank b bs h = rw h
 
-pub trimStart-solid : (b : ℕ) (bs : Bytes) → blank b ≡ false → trimStart (b ∷ bs) ≡ b ∷ bs
+pub trimStart-nonblank : (b : ℕ) (bs : Bytes) → blank b ≡ false → trimStart (b ∷ bs) ≡ b ∷ bs
 unfolding trimStart
-trimStart-solid b bs h = rw h
+trimStart-nonblank b bs h = rw h
 
 pub trimStart-nil : trimStart [] ≡ []
 unfolding trimStart
@@ -54,10 +54,10 @@ trimEnd-cons b (c ∷ cs) =
     (λ e. rw e (by-cases (blank b) (λ y. rw y) (λ y. rw y)))
     (λ e. rw (e, and-false (blank b)))
 
-pub keep-solid : (b : ℕ) (bs : Bytes) → blank b ≡ false → keep b bs ≡ b ∷ bs
+pub keep-nonblank : (b : ℕ) (bs : Bytes) → blank b ≡ false → keep b bs ≡ b ∷ bs
 unfolding keep
-keep-solid b [] h = rw h
-keep-solid b (c ∷ cs) h = refl
+keep-nonblank b [] h = rw h
+keep-nonblank b (c ∷ cs) h = refl
 
 pub trimEnd-blank : (l : Bytes) (b : ℕ) → blank b ≡ true → trimEnd (l ++ b ∷ []) ≡ trimEnd l
 unfolding keep
@@ -77,16 +77,16 @@ trimEnd-front (x ∷ y ∷ a) b c cs h = trimEnd-cons x (y ∷ a ++ b) ∙ rw (t
 -- a list that ends with no blank
 pub trimEnd-last : (l : Bytes) (b : ℕ) → blank b ≡ false → trimEnd (l ++ b ∷ []) ≡ l ++ b ∷ []
 trimEnd-last l b h =
-    let e : trimEnd (b ∷ []) ≡ b ∷ [] = trimEnd-cons b [] ∙ rw trimEnd-nil (keep-solid b [] h) in
+    let e : trimEnd (b ∷ []) ≡ b ∷ [] = trimEnd-cons b [] ∙ rw trimEnd-nil (keep-nonblank b [] h) in
     trimEnd-front l (b ∷ []) b [] e ∙ rw e
 
-pub trimEnd-solid : (l : Bytes) → all (λ b. not (blank b)) l ≡ true → trimEnd l ≡ l
+pub trimEnd-nonblank : (l : Bytes) → all (λ b. not (blank b)) l ≡ true → trimEnd l ≡ l
 unfolding all
-trimEnd-solid [] h = trimEnd-nil
-trimEnd-solid (b ∷ bs) h =
+trimEnd-nonblank [] h = trimEnd-nil
+trimEnd-nonblank (b ∷ bs) h =
     let y : not (blank b) ≡ true = and-left (not (blank b)) (all (λ b. not (blank b)) bs) h in
-    let e : trimEnd bs ≡ bs = trimEnd-solid bs (and-right (not (blank b)) (all (λ b. not (blank b)) bs) h) in
-    trimEnd-cons b bs ∙ rw e (keep-solid b bs (not-true (blank b) y))
+    let e : trimEnd bs ≡ bs = trimEnd-nonblank bs (and-right (not (blank b)) (all (λ b. not (blank b)) bs) h) in
+    trimEnd-cons b bs ∙ rw e (keep-nonblank b bs (not-true (blank b) y))
 
 -- a list without blanks at its end has none at the end of its rest
 pub trimEnd-tail : (b : ℕ) (bs : Bytes) → trimEnd (b ∷ bs) ≡ b ∷ bs → trimEnd bs ≡ bs
@@ -135,7 +135,7 @@ trimStart-trimEnd [] = rw (trimStart-nil, trimEnd-nil) trimStart-nil
 trimStart-trimEnd (b ∷ bs) =
     by-cases (blank b)
     (λ e. rw (trimStart-blank b bs e) (trimStart-trimEnd bs))
-    (λ e. rw (trimStart-solid b bs e, trimEnd-cons b bs, keep-solid b (trimEnd bs) e) (trimStart-solid b (trimEnd bs) e))
+    (λ e. rw (trimStart-nonblank b bs e, trimEnd-cons b bs, keep-nonblank b (trimEnd bs) e) (trimStart-nonblank b (trimEnd bs) e))
 
 pub trim-idem : (l : Bytes) → trimmed (trimmed l) ≡ trimmed l
 unfolding trimmed
@@ -164,17 +164,17 @@ pub start-blank : (s : Bytes) (at : ℕ) → at < length s → blank (getD s at 
     → trimStart (drop at s) ≡ trimStart (drop (at + 1) s)
 start-blank s at h e = rw (opened s at h) (trimStart-blank (getD s at 0) (drop (at + 1) s) e)
 
-pub start-solid : (s : Bytes) (at : ℕ) → at < length s → blank (getD s at 0) ≡ false
+pub start-nonblank : (s : Bytes) (at : ℕ) → at < length s → blank (getD s at 0) ≡ false
     → trimStart (drop at s) ≡ drop at s
-start-solid s at h e = rw (opened s at h) (trimStart-solid (getD s at 0) (drop (at + 1) s) e)
+start-nonblank s at h e = rw (opened s at h) (trimStart-nonblank (getD s at 0) (drop (at + 1) s) e)
 
 pub end-blank : (s : Bytes) (at : ℕ) → 0 < at → at ≤ length s → blank (getD s (at - 1) 0) ≡ true
     → trimEnd (take at s) ≡ trimEnd (take (at - 1) s)
 end-blank s at h k e = ap trimEnd (closed s at h k) ∙ trimEnd-blank (take (at - 1) s) (getD s (at - 1) 0) e
 
-pub end-solid : (s : Bytes) (at : ℕ) → 0 < at → at ≤ length s → blank (getD s (at - 1) 0) ≡ false
+pub end-nonblank : (s : Bytes) (at : ℕ) → 0 < at → at ≤ length s → blank (getD s (at - 1) 0) ≡ false
     → trimEnd (take at s) ≡ take at s
-end-solid s at h k e =
+end-nonblank s at h k e =
     ap trimEnd (closed s at h k) ∙ trimEnd-last (take (at - 1) s) (getD s (at - 1) 0) e ∙ sym (closed s at h k)
 
 pub start-done : (s : Bytes) (at : ℕ) → length s ≤ at → trimStart (drop at s) ≡ drop at s

@@ -138,14 +138,14 @@ unfolding charLength
 past-none t = refl
 
 -- the row at k has the first byte or not, as a test says
-module _ (k : ℕ) (t : Bytes) (cursorPast : PastRows k t) {test : Bool} (asked : test ≡ hasFirst (drop k rows) t) where
+module _ (k : ℕ) (t : Bytes) (past : PastRows k t) {test : Bool} (asked : test ≡ hasFirst (drop k rows) t) where
   pub past-more : test ≡ false → PastRows (suc k) t
   past-more e =
-      cursorPast ∙ row-left (drop k rows) t (sym asked ∙ e)
+      past ∙ row-left (drop k rows) t (sym asked ∙ e)
       ∙ ap (λ (qs : List Row). charIn qs t) (drop-drop 1 k rows ∙ ap (λ (n : ℕ). drop n rows) (add-one k))
 
   pub row-decides : {n : ℕ} → test ≡ true → n ≡ lengthBy (follows (drop k rows)) t → n ≡ charLength t
-  row-decides e f = f ∙ sym (cursorPast ∙ row-taken (drop k rows) t (sym asked ∙ e))
+  row-decides e f = f ∙ sym (past ∙ row-taken (drop k rows) t (sym asked ∙ e))
 
 -- the ranges asked one index after the other
 unfoldable pub inEach : ℕ → List Range → Bytes → Bool
@@ -282,15 +282,15 @@ start-at (suc n) a b bs u c =
     ap utf8 (take-append-add a (b ∷ bs) (suc n)) ∙ utf8-append a (take (suc n) (b ∷ bs)) u ∙ no-start n b bs c in
     rw add-suc (start-no (a ++ b ∷ bs) (length a + n) (rw add-suc at e) ∙ start-at n a b bs u c)
 
-pub well-all : (f : Bytes) → utf8 f ≡ true → longestStart f ≡ length f
+pub longestStart-all : (f : Bytes) → utf8 f ≡ true → longestStart f ≡ length f
 unfolding longestStart
-well-all f u = start-yes f (length f) (rw take-length u)
+longestStart-all f u = start-yes f (length f) (rw take-length u)
 
 -- it ends where no character stands
-pub well-start : (a r : Bytes) → utf8 a ≡ true → charLength r ≡ 0 → longestStart (a ++ r) ≡ length a
+pub longestStart-at : (a r : Bytes) → utf8 a ≡ true → charLength r ≡ 0 → longestStart (a ++ r) ≡ length a
 unfolding longestStart
-well-start a [] u c = rw append-nil (well-all a u)
-well-start a (b ∷ bs) u c = rw length-append (start-at (length (b ∷ bs)) a b bs u c)
+longestStart-at a [] u c = rw append-nil (longestStart-all a u)
+longestStart-at a (b ∷ bs) u c = rw length-append (start-at (length (b ∷ bs)) a b bs u c)
 
 -- bytes with such a place before their end are not well-formed
 pub not-utf8 : (a : Bytes) (b : ℕ) (bs : Bytes) → utf8 a ≡ true → charLength (b ∷ bs) ≡ 0 → utf8 (a ++ b ∷ bs) ≡ false
@@ -330,5 +330,5 @@ module _ (f : Bytes) (i : ℕ) (inside : i ≤ length f) (legal : utf8 (take i f
   pub start-ends : charLength (drop i f) ≡ 0 → longestStart f ≡ i
   start-ends e =
       ap longestStart (sym (take-append-drop i f))
-      ∙ well-start (take i f) (drop i f) legal e
+      ∙ longestStart-at (take i f) (drop i f) legal e
       ∙ length-take-le i f inside

@@ -10,15 +10,15 @@ use Rattle.lines.specs.Bytes.{Bytes, lineFeeds}
 use Rattle.lines.specs.Lines.{Line, physical, comment, joined}
 use Rattle.lines.specs.Buffers.{filled, put}
 use Rattle.lines.specs.Cursors.{linesAt, bytesBetween, cursorPast}
-use Rattle.lines.specs.LineSteps.{piece, ends, firstBytes, At, Standing, Onward, PhysicalAt, PieceOf, MeasuredAt}
+use Rattle.lines.specs.LineSteps.{textOf, piece, ends, firstBytes, At, Standing, Onward, PhysicalAt, PieceOf, MeasuredAt}
 use Rattle.lines.specs.declared.joiner.Cursor.{Cursor}
 use Rattle.lines.specs.declared.joiner.Physical.{Physical}
 use Rattle.lines.specs.declared.joiner.Piece.{Piece}
 use Rattle.lines.proofs.Buffers.{filled-put}
 use Rattle.lines.proofs.Bools.{by-cases}
-use Rattle.lines.proofs.Physicals.{openLine}
-use Rattle.lines.proofs.Joining.{waiting, waiting-start, waiting-ends, waiting-more, waiting-first, joined-comment, piece-comment, piece-length}
-use Rattle.lines.proofs.CursorSteps.{onward-here, onward-more, onward-number, stretch-length, some-line}
+use Rattle.lines.proofs.Physicals.{openLine, comment-first}
+use Rattle.lines.proofs.Joining.{waiting, joined-nil, waiting-start, waiting-ends, waiting-more, waiting-first, joined-comment, piece-comment, piece-length}
+use Rattle.lines.proofs.CursorSteps.{onward-here, onward-more, onward-number, bytesBetween-length, some-line}
 
 -- a physical line from a cursor up to an offset, and the physical lines from a cursor on
 abbrev pub lineTo : Bytes → Cursor → ℕ → Option ℕ → Line
@@ -34,14 +34,13 @@ unfolding linesAt
 lines-cons f c p is = ap joined (is .first)
 
 pub lines-none : (f : Bytes) (c : Cursor) → length f ≤ c .offset → linesAt f c ≡ []
-unfolding linesAt physical joined
-lines-none f c h = rw (drop-of-length-le f h)
+unfolding linesAt physical
+lines-none f c h = rw (drop-of-length-le f h) joined-nil
 
 -- ---- skipping comments
 
 pub comment-over : (f : Bytes) (i : ℕ) → length f ≤ i → comment (drop i f) ≡ false
-unfolding comment
-comment-over f i h = rw (drop-of-length-le f h)
+comment-over f i h = rw (drop-of-length-le f h) (comment-first [])
 
 pub skip-more : (f : Bytes) (c : Cursor) (p : Physical) → PhysicalAt f c p → comment (drop (c .offset) f) ≡ true → linesAt f c ≡ linesAt f (p .next)
 unfolding linesAt
@@ -56,7 +55,7 @@ pub record Walk (f : Bytes) (s c : Cursor) (n : ℕ) : Type 0 where
   pub lines : linesAt f s ≡ waiting (s .line) so-far (linesAt f c)
   pub onward : Onward f s c
   pub number : c .line ≤ c .offset + 1
-  pub paid : s .offset + n ≤ c .offset
+  pub shorter : s .offset + n ≤ c .offset
 
 pub walk-start : (f : Bytes) (s : Cursor) → Standing f s → Walk f s s 0
 walk-start f s h =
@@ -67,7 +66,7 @@ walk-start f s h =
       lines = sym (ap (waiting (s .line) []) (lines-cons f s (l .0) (l .1)) ∙ waiting-start (lineTo f s (l .0 .end) (l .1 .end)) (physicalAt f (l .0 .next)) (l .1 .mark ∙ h .stands) ∙ sym (lines-cons f s (l .0) (l .1)));
       onward = onward-here f s (omega (arith, h .at .inside));
       number = h .at .number;
-      paid = omega arith;
+      shorter = omega arith;
     }
 
 cursor-is : (d : Cursor) (o l : ℕ) → d .offset ≡ o → d .line ≡ l → d ≡ record { offset = o; line = l }
@@ -90,7 +89,7 @@ module _ (f : Bytes) (s c : Cursor) (n : ℕ) (w : Walk f s c n) where
         length-is = sym (w .size);
         onward = w .onward;
         later = omega (arith, at .inside);
-        paid = w .paid;
+        shorter = w .shorter;
         next-is = cursor-is c (length f) _ e (w .onward .counted ∙ ap (λ (z : ℕ). s .line + lineFeeds (bytesBetween (s .offset) z f)) e);
       }
 
@@ -104,57 +103,57 @@ module _ (f : Bytes) (s c : Cursor) (n : ℕ) (w : Walk f s c n) where
     pub lines-next : linesAt f s ≡ waiting (s .line) (w .so-far) (joined (lineTo f c (p .end) (is .end) ∷ physicalAt f (p .next)))
     lines-next = w .lines ∙ ap (waiting (s .line) (w .so-far)) (lines-cons f c p is)
 
-    -- a piece is no longer than its line
-    pub piece-paid : s .offset + (n + length (piece (bytesBetween (c .offset) (p .end) f))) ≤ p .end
-    piece-paid =
-        by-cases (comment (bytesBetween (c .offset) (p .end) f))
-        (λ e. omega (arith, ap length (piece-comment (bytesBetween (c .offset) (p .end) f) e .0), w .paid, is .starts))
-        (λ e. omega (arith, piece-length (bytesBetween (c .offset) (p .end) f) e, stretch-length (c .offset) (p .end) f (is .stops), w .paid, is .starts))
+    -- with the next piece the bytes met are still no more than the bytes passed
+    pub piece-shorter : s .offset + (n + length (piece (textOf f c p))) ≤ p .end
+    piece-shorter =
+        by-cases (comment (textOf f c p))
+        (λ e. omega (arith, ap length (piece-comment (textOf f c p) e .0), w .shorter, is .starts))
+        (λ e. omega (arith, piece-length (textOf f c p) e, bytesBetween-length (c .offset) (p .end) f (is .stops), w .shorter, is .starts))
 
     -- the line that is joined
-    pub whole : ends (bytesBetween (c .offset) (p .end) f) ≡ true
-        → linesAt f s ≡ record { number = s .line; bytes = w .so-far ++ piece (bytesBetween (c .offset) (p .end) f); end = is .end } ∷ linesAt f (p .next)
+    pub whole : ends (textOf f c p) ≡ true
+        → linesAt f s ≡ record { number = s .line; bytes = w .so-far ++ piece (textOf f c p); end = is .end } ∷ linesAt f (p .next)
     unfolding linesAt
     whole e = lines-next ∙ waiting-ends (s .line) (w .so-far) (lineTo f c (p .end) (is .end)) (physicalAt f (p .next)) e
 
-    pub part : ends (bytesBetween (c .offset) (p .end) f) ≡ false
-        → linesAt f s ≡ waiting (s .line) (w .so-far ++ piece (bytesBetween (c .offset) (p .end) f)) (linesAt f (p .next))
+    pub part : ends (textOf f c p) ≡ false
+        → linesAt f s ≡ waiting (s .line) (w .so-far ++ piece (textOf f c p)) (linesAt f (p .next))
     unfolding linesAt
     part e = lines-next ∙ waiting-more (s .line) (w .so-far) (lineTo f c (p .end) (is .end)) (physicalAt f (p .next)) e
 
     -- what has been met and the piece are a start of the line
-    pub piece-room : n + length (piece (bytesBetween (c .offset) (p .end) f)) ≤ length (firstBytes (linesAt f s))
+    pub piece-room : n + length (piece (textOf f c p)) ≤ length (firstBytes (linesAt f s))
     piece-room =
-        let j : length (w .so-far ++ piece (bytesBetween (c .offset) (p .end) f)) ≡ n + length (piece (bytesBetween (c .offset) (p .end) f)) =
-        length-append (w .so-far) (piece (bytesBetween (c .offset) (p .end) f)) ∙ ap (λ (k : ℕ). k + length (piece (bytesBetween (c .offset) (p .end) f))) (w .size) in
-        by-cases (ends (bytesBetween (c .offset) (p .end) f))
+        let j : length (w .so-far ++ piece (textOf f c p)) ≡ n + length (piece (textOf f c p)) =
+        length-append (w .so-far) (piece (textOf f c p)) ∙ ap (λ (k : ℕ). k + length (piece (textOf f c p))) (w .size) in
+        by-cases (ends (textOf f c p))
         (λ e. omega (arith, j, ap (λ (r : List Line). length (firstBytes r)) (whole e)))
-        (λ e. omega (arith, j, ap (λ (r : List Line). length (firstBytes r)) (part e), waiting-first (s .line) (w .so-far ++ piece (bytesBetween (c .offset) (p .end) f)) (linesAt f (p .next))))
+        (λ e. omega (arith, j, ap (λ (r : List Line). length (firstBytes r)) (part e), waiting-first (s .line) (w .so-far ++ piece (textOf f c p)) (linesAt f (p .next))))
 
-    module _ (q : Piece) (of : PieceOf (bytesBetween (c .offset) (p .end) f) q) where
-      size-next : length (w .so-far ++ piece (bytesBetween (c .offset) (p .end) f)) ≡ n + q .length
-      size-next = length-append (w .so-far) (piece (bytesBetween (c .offset) (p .end) f)) ∙ omega (arith, w .size, of .length-is)
+    module _ (q : Piece) (of : PieceOf (textOf f c p) q) where
+      size-next : length (w .so-far ++ piece (textOf f c p)) ≡ n + q .length
+      size-next = length-append (w .so-far) (piece (textOf f c p)) ∙ omega (arith, w .size, of .length-is)
 
       pub walk-more : q .ends ≡ false → Walk f s (p .next) (n + q .length)
       walk-more e = record {
-        so-far = w .so-far ++ piece (bytesBetween (c .offset) (p .end) f);
+        so-far = w .so-far ++ piece (textOf f c p);
         size = size-next;
         lines = part (sym (of .ends-is) ∙ e);
         onward = onward-next;
         number = number-next;
-        paid = omega (arith, piece-paid, of .length-is, is .ended-after);
+        shorter = omega (arith, piece-shorter, of .length-is, is .ended-after);
       }
 
       pub measured-line : q .ends ≡ true → MeasuredAt f s (record { length = n + q .length; next = p .next })
       unfolding cursorPast
       measured-line e = record {
-        line = record { number = s .line; bytes = w .so-far ++ piece (bytesBetween (c .offset) (p .end) f); end = is .end };
+        line = record { number = s .line; bytes = w .so-far ++ piece (textOf f c p); end = is .end };
         view = whole (sym (of .ends-is) ∙ e);
         number-is = refl;
         length-is = sym size-next;
         onward = onward-next;
         later = omega (arith, w .onward .onward, is .later);
-        paid = omega (arith, piece-paid, of .length-is, is .ended-after);
+        shorter = omega (arith, piece-shorter, of .length-is, is .ended-after);
         next-is = cursor-is (p .next) _ _ (sym (is .ended)) (onward-next .counted ∙ ap (λ (z : ℕ). s .line + lineFeeds (bytesBetween (s .offset) z f)) (sym (is .ended)));
       }
 
@@ -175,13 +174,13 @@ module _ (f : Bytes) (s c : Cursor) (n : ℕ) (before d : Bytes) (k : Copied f s
   copied-over h = k .held ∙ ap (λ (r : List Line). filled (firstBytes r) before) (sym (walk-over f s c n (k .walk) h))
 
   module _ (p : Physical) (is : PhysicalAt f c p) where
-    pub copied-room : length (firstBytes (linesAt f s)) ≤ length before → n + length (piece (bytesBetween (c .offset) (p .end) f)) ≤ length d
+    pub copied-room : length (firstBytes (linesAt f s)) ≤ length before → n + length (piece (textOf f c p)) ≤ length d
     copied-room h = omega (arith, piece-room f s c n (k .walk) p is, k .same)
 
-    module _ (q : Piece) (of : PieceOf (bytesBetween (c .offset) (p .end) f) q) (d′ : Bytes) (put-is : d′ ≡ put d n (piece (bytesBetween (c .offset) (p .end) f))) where
-      next-held : d′ ≡ filled (k .walk .so-far ++ piece (bytesBetween (c .offset) (p .end) f)) before
+    module _ (q : Piece) (of : PieceOf (textOf f c p) q) (d′ : Bytes) (put-is : d′ ≡ put d n (piece (textOf f c p))) where
+      next-held : d′ ≡ filled (k .walk .so-far ++ piece (textOf f c p)) before
       next-held =
-          put-is ∙ rw (k .held, ← k .walk .size) (filled-put (k .walk .so-far) (piece (bytesBetween (c .offset) (p .end) f)) before)
+          put-is ∙ rw (k .held, ← k .walk .size) (filled-put (k .walk .so-far) (piece (textOf f c p)) before)
 
       pub copied-more : length d′ ≡ length d → q .ends ≡ false → Copied f s (p .next) (n + q .length) before d′
       unfolding walk-more

@@ -1,5 +1,5 @@
 -- A line with no LF, no comment start and no odd closing run is read back as itself.
-use mathlib.Core.Path.{_≡_, refl, ap, _∙_}
+use mathlib.Core.Path.{_≡_, ap, _∙_}
 use Prim.Native.Nat.{ℕ, suc, _+_}
 use mathlib.Core.List.{List, [], _∷_, _++_}
 use lib.ListN.{length}
@@ -7,7 +7,7 @@ use Rattle.lines.specs.Laws.{All, Whole, bytesOf}
 use Rattle.lines.specs.Bytes.{Bytes}
 use Rattle.lines.specs.Lines.{physical, joined, logical, written}
 use Rattle.lines.proofs.Physicals.{shutLine, physical-cons}
-use Rattle.lines.proofs.Joining.{joined-line}
+use Rattle.lines.proofs.Joining.{joined-nil, joined-line}
 
 -- in front of any file
 pub whole-cons : (l rest : Bytes) (n a : ℕ) → Whole l
@@ -19,8 +19,8 @@ whole-cons l rest n a w =
 -- ---- a text of such lines
 
 pub whole-lines : (ls : List Bytes) (n a : ℕ) → All Whole ls → bytesOf (joined (physical n a (written ls))) ≡ ls
-unfolding written physical joined
-whole-lines [] n a h = refl
+unfolding written physical
+whole-lines [] n a h = ap bytesOf joined-nil
 whole-lines (l ∷ ls) n a h =
     ap bytesOf (whole-cons l (written ls) n a (h .0))
     ∙ ap (λ (r : List Bytes). l ∷ r) (whole-lines ls (suc n) (suc (a + length l)) (h .1))

@@ -5,11 +5,12 @@ use Prim.Native.Nat.{ℕ, suc, _+_, _≤_, _<_}
 use mathlib.Core.Bool.{Bool, true, false, not, _&&_}
 use mathlib.Core.List.{List, [], _∷_, _++_}
 use lib.ListN.{length}
-use lib.Dec.{leb}
-use Rattle.lines.specs.Bytes.{Bytes, isLF, control, between, all}
+use lib.Dec.{leb, eqb}
+use Rattle.lines.specs.Bytes.{Bytes, isLF, blank, control, between, all, lineFeeds}
+use Rattle.lines.specs.Answers.{accepted}
 use Rattle.lines.specs.Utf8.{utf8, encoded}
-use Rattle.lines.specs.Lines.{Line, comment, continued, joinNext, joined, logical, written}
-use Rattle.lines.specs.Files.{size}
+use Rattle.lines.specs.Lines.{Line, physical, comment, continued, joinNext, joined, logical, written}
+use Rattle.lines.specs.Files.{unterminated, size, checkedFile}
 use Rattle.lines.specs.Cursors.{firstCursor, logicalFrom, cursorPast}
 use Rattle.lines.specs.declared.joiner.Cursor.{Cursor}
 
@@ -23,9 +24,32 @@ Utf8Splits = (a : Bytes) (c : ℕ) (b : Bytes) → leb c 0x7F ≡ true → utf8 
 abbrev pub Utf8Appends : Type 0
 Utf8Appends = (a b : Bytes) → utf8 a ≡ true → utf8 (a ++ b) ≡ utf8 b
 
+-- bytes below 80 are well-formed
+abbrev pub AsciiUtf8 : Type 0
+AsciiUtf8 = (l : Bytes) → all (λ b. leb b 0x7F) l ≡ true → utf8 l ≡ true
+
 -- the bytes of a code point are well-formed
 abbrev pub EncodedUtf8 : Type 0
 EncodedUtf8 = (n : ℕ) → n ≤ 0x10FFFF → between 0xD800 0xDFFF n ≡ false → utf8 (encoded n) ≡ true
+
+-- ---- a file that is accepted before its lines are read
+
+-- not a control byte
+abbrev pub plain : ℕ → Bool
+plain b = not (control b)
+
+-- short enough, UTF-8, without control bytes
+pub record Sound (f : Bytes) : Type 0 where
+  pub short : size f ≤ 65535
+  pub characters : utf8 f ≡ true
+  pub bytes : all plain f ≡ true
+
+-- none of 2, 3 and 4 is met exactly by a sound file
+abbrev pub CheckedSound : Type 0
+CheckedSound = (f : Bytes) → checkedFile f ≡ accepted tt → Sound f
+
+abbrev pub SoundChecked : Type 0
+SoundChecked = (f : Bytes) → Sound f → checkedFile f ≡ accepted tt
 
 -- ---- one more physical line in front
 
@@ -47,6 +71,23 @@ LineContinued = (l : Line) (ls : List Line) → comment (l .bytes) ≡ false →
 abbrev pub CommentAnywhere : Type 0
 CommentAnywhere = (a : List Line) (c : Line) (b : List Line) → comment (c .bytes) ≡ true → joined (a ++ c ∷ b) ≡ joined (a ++ b)
 
+-- a line whose first byte is no blank, # or ; is no comment
+abbrev pub NoComment : Type 0
+NoComment = (b : ℕ) (bs : Bytes) → blank b ≡ false → eqb b 0x23 ≡ false → eqb b 0x3B ≡ false → comment (b ∷ bs) ≡ false
+
+-- behind a part that ends in LF, or is empty, the lines of the rest stand for themselves
+abbrev pub LinesAppend : Type 0
+LinesAppend = (p q : Bytes) (n a : ℕ) → unterminated p ≡ false
+    → physical n a (p ++ q) ≡ physical n a p ++ physical (n + lineFeeds p) (a + length p) q
+
+abbrev pub bytesOf : List Line → List Bytes
+bytesOf [] = []
+bytesOf (l ∷ ls) = l .bytes ∷ bytesOf ls
+
+-- line numbers and offsets do not decide the bytes of the logical lines
+abbrev pub NumbersApart : Type 0
+NumbersApart = (f : Bytes) (n a m b : ℕ) → bytesOf (joined (physical n a f)) ≡ bytesOf (joined (physical m b f))
+
 -- ---- reading on
 
 -- from the first cursor on stand the logical lines of the file
@@ -59,10 +100,11 @@ pub record Ahead (f : Bytes) (c : Cursor) (l : Line) (ls : List Line) : Type 0 w
   pub others : ls ≡ logicalFrom f (cursorPast f c l)
   pub inside : cursorPast f c l .offset ≤ length f
   pub later : c .offset < cursorPast f c l .offset
-  pub paid : c .offset + length (l .bytes) ≤ cursorPast f c l .offset
+  pub shorter : c .offset + length (l .bytes) ≤ cursorPast f c l .offset
   pub number : cursorPast f c l .line ≤ cursorPast f c l .offset + 1
   pub first : c .line ≤ l .number
 
+-- this holds of each line that is next
 abbrev pub ReadsOn : Type 0
 ReadsOn = (f : Bytes) (c : Cursor) (l : Line) (ls : List Line) → logicalFrom f c ≡ l ∷ ls → Ahead f c l ls
 
@@ -73,7 +115,7 @@ unfoldable pub total : List Line → ℕ
 total [] = 0
 total (l ∷ ls) = suc (length (l .bytes)) + total ls
 
--- the logical lines are paid for by the file
+-- of the logical lines they are at most the size of the file
 abbrev pub LinesFit : Type 0
 LinesFit = (f : Bytes) → total (logical f) ≤ size f
 
@@ -84,10 +126,7 @@ abbrev pub All : {A : Type 0} → (A → Type 0) → List A → Type 0
 All P [] = Unit {0}
 All P (x ∷ xs) = P x × All P xs
 
-abbrev pub bytesOf : List Line → List Bytes
-bytesOf [] = []
-bytesOf (l ∷ ls) = l .bytes ∷ bytesOf ls
-
+-- no byte is LF
 unfoldable pub noLF : Bytes → Bool
 unfolding all
 noLF l = all (λ b. not (isLF b)) l
@@ -104,10 +143,6 @@ ReadBack = (ls : List Bytes) → All Whole ls → bytesOf (logical (written ls))
 
 -- ---- legal lines
 
--- not a control byte
-abbrev pub plain : ℕ → Bool
-plain b = not (control b)
-
 -- a byte that may stand in a line
 abbrev pub lineByte : ℕ → Bool
 lineByte b = plain b && not (isLF b)
@@ -122,7 +157,7 @@ pub record Settled (l : Bytes) : Type 0 where
   pub legal : Legal l
   pub ends : continued l ≡ false
 
--- the logical lines of a legal file are so
+-- the logical lines of a legal file are legal and end in no odd run
 abbrev pub LinesSettled : Type 0
 LinesSettled = (f : Bytes) → utf8 f ≡ true → all plain f ≡ true → All (λ (l : Line). Settled (l .bytes)) (logical f)
 

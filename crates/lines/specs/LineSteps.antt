@@ -49,12 +49,17 @@ pub record Onward (f : Bytes) (c d : Cursor) : Type 0 where
   pub onward : c .offset ≤ d .offset
   pub counted : d .line ≡ c .line + lineFeeds (bytesBetween (c .offset) (d .offset) f)
 
--- the physical line at c
+-- the bytes of a physical line at c that has been measured
+abbrev pub textOf : Bytes → Cursor → Physical → Bytes
+textOf f c p = bytesBetween (c .offset) (p .end) f
+
+-- The physical line at c: its bytes and what follows it; it is a comment where the bytes from c on start
+-- one; it ends where the next one starts; the next cursor lies further on.
 pub record PhysicalAt (f : Bytes) (c : Cursor) (p : Physical) : Type 0 where
   pub end : Option ℕ
   pub first : physical (c .line) (c .offset) (drop (c .offset) f)
-      ≡ record { number = c .line; bytes = bytesBetween (c .offset) (p .end) f; end = end } ∷ physical (p .next .line) (p .next .offset) (drop (p .next .offset) f)
-  pub mark : comment (bytesBetween (c .offset) (p .end) f) ≡ comment (drop (c .offset) f)
+      ≡ record { number = c .line; bytes = textOf f c p; end = end } ∷ physical (p .next .line) (p .next .offset) (drop (p .next .offset) f)
+  pub mark : comment (textOf f c p) ≡ comment (drop (c .offset) f)
   pub ended : endOf f end ≡ p .next .offset
   pub onward : Onward f c (p .next)
   pub later : c .offset < p .next .offset
@@ -81,4 +86,4 @@ pub record MeasuredAt (f : Bytes) (c : Cursor) (m : Measured) : Type 0 where
   pub next-is : m .next ≡ cursorPast f c line
   pub onward : Onward f c (m .next)
   pub later : c .offset < m .next .offset
-  pub paid : c .offset + m .length ≤ m .next .offset
+  pub shorter : c .offset + m .length ≤ m .next .offset

@@ -8,7 +8,7 @@ use borrow.Author.Needs.{needs}
 use borrow.Author.Tests.{eq-eqb, ne-eqb}
 use Rattle.lines.specs.Bytes.{equal}
 use Rattle.lines.proofs.Bools.{is-false}
-use Rattle.lines.proofs.Comparison.{same-length, same-here, same-done}
+use Rattle.lines.proofs.Comparison.{equal-length, equal-here, equal-done}
 use Rattle.lines.proofs.bytes.same.Statement.{statement}
 use Rattle.lines.proofs.bytes.same.Tie as tie
 
@@ -19,7 +19,7 @@ abbrev μ-loop : tie.MeasureT-loop
 μ-loop a b i₀ i = length a - i
 
 returns : tie.Need-returns Inv-loop μ-loop
-returns c = sym (is-false _ (λ e. c .if1 .taken (same-length (now (c .before .args .a)) (now (c .before .args .b)) e)))
+returns c = sym (is-false _ (λ e. c .if1 .taken (equal-length (now (c .before .args .a)) (now (c .before .args .b)) e)))
 
 loop-holds : tie.Need-loop-holds Inv-loop μ-loop
 loop-holds c = (omega arith, refl)
@@ -34,7 +34,7 @@ returns-2 : tie.Need-returns-2 Inv-loop μ-loop
 returns-2 c =
     let l = c .before .before .before .before in
     let a = l .before .before .args in
-    let e = same-here (now (a .a)) (now (a .b)) (l .loop .i) (omega arith) (omega arith) in
+    let e = equal-here (now (a .a)) (now (a .b)) (l .loop .i) (omega arith) (omega arith) in
     sym (l .loop .inv .1 ∙ e ∙ rw (ne-eqb _ _ (c .if2 .taken)))
 
 add-i : tie.Need-add-i Inv-loop μ-loop
@@ -48,14 +48,14 @@ loop-again c =
     let l = c .before .before .before .before in
     let a = l .before .before .args in (
       omega arith,
-      l .loop .inv .1 ∙ same-here (now (a .a)) (now (a .b)) (l .loop .i) (omega arith) (omega arith) ∙ rw (eq-eqb _ _ (c .if2 .left)),
+      l .loop .inv .1 ∙ equal-here (now (a .a)) (now (a .b)) (l .loop .i) (omega arith) (omega arith) ∙ rw (eq-eqb _ _ (c .if2 .left)),
     )
 
 returns-3 : tie.Need-returns-3 Inv-loop μ-loop
 returns-3 c =
     let a = c .before .before .before .args in
     let l = c .before .loop in
-    sym (l .inv .1 ∙ same-done (now (a .a)) (now (a .b)) (l .i) (omega arith) (omega arith))
+    sym (l .inv .1 ∙ equal-done (now (a .a)) (now (a .b)) (l .i) (omega arith) (omega arith))
 
 pub same-spec : {M : Type 1} → statement M
 same-spec =

@@ -7,7 +7,7 @@ use lib.Seq.{take-length}
 use denote.Ref.{now}
 use borrow.Author.Needs.{needs}
 use Rattle.lines.specs.Trim.{trimEnd}
-use Rattle.lines.proofs.Trimming.{end-part, end-blank, end-solid, end-done}
+use Rattle.lines.proofs.Trimming.{end-part, end-blank, end-nonblank, end-done}
 use Rattle.lines.proofs.bytes.trim_end.Statement.{statement}
 use Rattle.lines.proofs.bytes.trim_end.Tie as tie
 
@@ -56,7 +56,7 @@ returns c =
     let l = c .before .before .before .before .before in
     let s = now (l .before .before .args .text) in
     let e = sym (c .before .before .is-blank .ensures) ∙ c .before .if1 .left in
-    end-part s (l .loop .end) ∙ sym (l .loop .inv .1 ∙ end-solid s (l .loop .end) (omega arith) (omega arith) e)
+    end-part s (l .loop .end) ∙ sym (l .loop .inv .1 ∙ end-nonblank s (l .loop .end) (omega arith) (omega arith) e)
 
 sub-result-2 : tie.Need-sub-result-2 Inv-loop μ-loop
 sub-result-2 c = search needs

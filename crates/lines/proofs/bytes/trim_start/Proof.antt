@@ -7,7 +7,7 @@ use denote.Ref.{now}
 use borrow.Author.Needs.{needs}
 use Rattle.lines.specs.Trim.{trimStart}
 use Rattle.lines.proofs.Slices.{part-from}
-use Rattle.lines.proofs.Trimming.{start-blank, start-solid, start-done}
+use Rattle.lines.proofs.Trimming.{start-blank, start-nonblank, start-done}
 use Rattle.lines.proofs.bytes.trim_start.Statement.{statement}
 use Rattle.lines.proofs.bytes.trim_start.Tie as tie
 
@@ -53,7 +53,7 @@ returns c =
     let l = c .before .before .before .before .before in
     let s = now (l .before .before .args .text) in
     let e = sym (c .before .before .is-blank .ensures) ∙ c .before .if1 .left in
-    part-from (l .loop .start) s ∙ sym (l .loop .inv .1 ∙ start-solid s (l .loop .start) (omega arith) e)
+    part-from (l .loop .start) s ∙ sym (l .loop .inv .1 ∙ start-nonblank s (l .loop .start) (omega arith) e)
 
 sub-result-2 : tie.Need-sub-result-2 Inv-loop μ-loop
 sub-result-2 c = search needs

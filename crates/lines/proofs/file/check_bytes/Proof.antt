@@ -8,7 +8,7 @@ use borrow.Author.Needs.{needs}
 use borrow.Author.Tests.{eq-eqb, ne-eqb}
 use Rattle.lines.specs.CharSteps.{charLength}
 use Rattle.lines.proofs.Slices.{part-from}
-use Rattle.lines.proofs.FileLaws.{Passed, start, line-fits, go, broken, ended}
+use Rattle.lines.proofs.FileLaws.{Passed, passed-start, line-fits, passed-more, passed-broken, passed-ended}
 use Rattle.lines.proofs.file.check_bytes.Statement.{statement}
 use Rattle.lines.proofs.file.check_bytes.Tie as tie
 
@@ -19,7 +19,7 @@ abbrev μ-loop : tie.MeasureT-loop
 μ-loop file i₀ line₀ found₀ i line found = length file - i
 
 loop-holds : tie.Need-loop-holds Inv-loop μ-loop
-loop-holds c = start (now (c .before .args .file))
+loop-holds c = passed-start (now (c .before .args .file))
 
 sub-char-length : tie.Need-sub-char-length Inv-loop μ-loop
 sub-char-length c = omega arith
@@ -41,7 +41,7 @@ seen c = c .char-length .ensures ∙ ap charLength (part-from (c .before .before
 
 returns : tie.Need-returns Inv-loop μ-loop
 returns c =
-    sym (broken (c .before .before .before .before .loop .inv) (c .before .before .before .loop-test .taken)
+    sym (passed-broken (c .before .before .before .before .loop .inv) (c .before .before .before .loop-test .taken)
     (sym (seen (c .before)) ∙ c .if1 .taken))
 
 shared-slice-read-b : tie.Need-shared-slice-read-b Inv-loop μ-loop
@@ -63,7 +63,7 @@ again : (c : tie.After-line-after Inv-loop μ-loop) →
 again c =
     let e = c .before .before .before .before in
     rw (c .line-after .ensures, c .before .control-after .ensures)
-    (go (e .char-length .result) (e .before .before .before .loop .inv) (e .before .before .loop-test .taken)
+    (passed-more (e .char-length .result) (e .before .before .before .loop .inv) (e .before .before .loop-test .taken)
     (seen e) (c .before .before .before .if1 .left))
 
 add-i : tie.Need-add-i Inv-loop μ-loop
@@ -76,10 +76,10 @@ loop-again : tie.Need-loop-again Inv-loop μ-loop
 loop-again c = again c
 
 returns-2 : tie.Need-returns-2 Inv-loop μ-loop
-returns-2 c = sym (ended (c .before .before .loop .inv) (c .before .loop-test .left) ∙ rw (eq-eqb _ _ (c .if2 .taken)))
+returns-2 c = sym (passed-ended (c .before .before .loop .inv) (c .before .loop-test .left) ∙ rw (eq-eqb _ _ (c .if2 .taken)))
 
 returns-3 : tie.Need-returns-3 Inv-loop μ-loop
-returns-3 c = sym (ended (c .before .before .loop .inv) (c .before .loop-test .left) ∙ rw (ne-eqb _ _ (c .if2 .left)))
+returns-3 c = sym (passed-ended (c .before .before .loop .inv) (c .before .loop-test .left) ∙ rw (ne-eqb _ _ (c .if2 .left)))
 
 pub check-bytes-spec : {M : Type 1} → statement M
 check-bytes-spec =

@@ -4,7 +4,7 @@ use Prim.Native.Nat.{_-_}
 use native.Mathlib.Omega.{arith}
 use lib.ListN.{length}
 use denote.Ref.{now}
-use Rattle.lines.proofs.Walk.{Copied, copied-start, copied-room, copied-more, copied-line, copied-over, piece-paid}
+use Rattle.lines.proofs.Walk.{Copied, copied-start, copied-room, copied-more, copied-line, copied-over, piece-shorter}
 use Rattle.lines.proofs.joiner.copy_joined.Statement.{statement}
 use Rattle.lines.proofs.joiner.copy_joined.Tie as tie
 
@@ -44,7 +44,7 @@ add-n c =
     let l = c .before .before .before .before .before .before .before .before .before .before .loop in
     let p = c .before .before .before .before .before .before .before .physical-line in
     let q = c .before .before .before .copy-piece in
-    omega (arith, piece-paid (now (s .args .file)) (s .args .start) (l .c) (l .n) (l .inv .walk) (p .result) (p .ensures), q .ensures .0 .length-is, p .ensures .stops)
+    omega (arith, piece-shorter (now (s .args .file)) (s .args .start) (l .c) (l .n) (l .inv .walk) (p .result) (p .ensures), q .ensures .0 .length-is, p .ensures .stops)
 
 same-length : tie.Need-same-length Inv-loop μ-loop
 same-length c = c .before .before .before .before .copy-piece .kept .1 .0 ∙ c .before .before .before .before .before .before .before .before .before .before .before .loop .inv .same

@@ -14,8 +14,7 @@ use Rattle.lines.proofs.joiner.is_comment.Statement.{statement}
 use Rattle.lines.proofs.joiner.is_comment.Tie as tie
 
 empty : (l : Bytes) → length l ≡ 0 → false ≡ comment l
-unfolding comment
-empty [] e = refl
+empty [] e = sym (comment-first [])
 empty (b ∷ bs) e = absurd (omega arith)
 
 returns : tie.Need-returns

@@ -3,7 +3,7 @@ use Prim.Native.Nat.{_-_}
 use native.Mathlib.Omega.{arith}
 use lib.ListN.{length}
 use denote.Ref.{now}
-use Rattle.lines.proofs.Walk.{Walk, walk-start, walk-more, piece-paid, measured-line, measured-over}
+use Rattle.lines.proofs.Walk.{Walk, walk-start, walk-more, piece-shorter, measured-line, measured-over}
 use Rattle.lines.proofs.joiner.measure.Statement.{statement}
 use Rattle.lines.proofs.joiner.measure.Tie as tie
 
@@ -37,7 +37,7 @@ add-length c =
     let l = c .before .before .before .before .before .before .before .loop in
     let p = c .before .before .before .before .physical-line in
     let q = c .before .piece-of in
-    omega (arith, piece-paid f _ (l .c) (l .length) (l .inv) (p .result) (p .ensures), q .ensures .length-is, p .ensures .stops)
+    omega (arith, piece-shorter f _ (l .c) (l .length) (l .inv) (p .result) (p .ensures), q .ensures .length-is, p .ensures .stops)
 
 returns : tie.Need-returns Inv-loop μ-loop
 returns c =

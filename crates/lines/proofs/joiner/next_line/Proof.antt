@@ -8,7 +8,7 @@ use Rattle.lines.specs.Lines.{Line}
 use Rattle.lines.specs.Buffers.{filled}
 use Rattle.lines.specs.LineSteps.{firstBytes}
 use Rattle.lines.proofs.CursorSteps.{onward-number}
-use Rattle.lines.proofs.Reading.{promised, from-past, from-outside, next-short, next-none, next-over, next-too-long, next-measured, told-measured}
+use Rattle.lines.proofs.Reading.{promised, from-past, from-outside, next-short, next-none, next-over, next-too-long, next-measured, answer-measured}
 use borrow.Author.Needs.{needs}
 use Rattle.lines.proofs.joiner.next_line.Statement.{statement}
 use Rattle.lines.proofs.joiner.next_line.Tie as tie
@@ -78,7 +78,7 @@ returns-6 c =
     let m = c .before .before .before .before .before .before .measure in
     promised (now (a .file)) (a .cursor) (now (a .buffer)) _ _ _
     (next-measured (now (a .file)) (a .cursor) (k .result) (length (now (a .buffer))) (c .before .before .before .before .before .before .before .before .before .before .before .before .before .before .if1 .left) (c .before .before .before .before .before .before .before .before .before .if3 .left) (k .ensures) (m .result) (m .ensures) (c .before .before .before .before .before .if5 .left))
-    (told-measured (now (a .file)) (a .cursor) (k .result) (length (now (a .buffer))) (c .before .before .before .before .before .before .before .before .before .before .before .before .before .before .if1 .left) (c .before .before .before .before .before .before .before .before .before .if3 .left) (k .ensures) (m .result) (m .ensures))
+    (answer-measured (now (a .file)) (a .cursor) (k .result) (length (now (a .buffer))) (c .before .before .before .before .before .before .before .before .before .before .before .before .before .before .if1 .left) (c .before .before .before .before .before .before .before .before .before .if3 .left) (k .ensures) (m .result) (m .ensures))
     (c .before .before .before .copy-joined .ensures ∙ ap (λ (r : List Line). filled (firstBytes r) (now (a .buffer))) (m .ensures .view))
 
 pub next-line-spec : {M : Type 1} → statement M
