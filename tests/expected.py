@@ -3,8 +3,8 @@
 
 usage: expected.py [--check]      (--check: only compare with the files that stand)
 
-This follows the rules of document 01 and nothing else: it is no translation of the Rattle code, and
-Python's own strict decoder judges UTF-8. The hand-made results at the end are asserted first.
+This follows the rules of document 01 and, for single calls, the joiner's interface in
+docs/DECISIONS.md. It is no translation of the Rattle code, and Python's own strict decoder judges UTF-8. The hand-made results at the end are asserted first.
 """
 import os
 import re
@@ -179,6 +179,7 @@ FILES = [
     ('4096 blanks', b' ' * 4096),
     ('4097 blanks', b' ' * 4097),
     ('a long line in line 2', b'x\n' + b'a' * 4097),
+    ('a long line after a comment', b'#\n' + b'a' * 4097),
 ]
 
 # the same, in the order of crates/check_cases
@@ -194,7 +195,7 @@ CHECKS = [
     ('control 0D', b'a\nb\r\n'),
     ('control 1F', b'a\n\x1fb\n'),
     ('control 7F', b'a\nb\x7f'),
-    ('tab and 20 are none', b'a\t \n~'),
+    ('tab and LF are none', b'a\t \n~'),
     ('control in a comment', b'a\n#\x01\n'),
     ('the first of two control bytes', b'a\n\x02\n\x03'),
     ('control in line 1, not UTF-8 in line 3', b'\x01\nb\n\xff\n'),
@@ -286,6 +287,7 @@ HAND_FILES = {
     '4097 bytes': b'refused 5 at 1\n',
     '4097 blanks': b'refused 5 at 1\n',
     'a long line in line 2': b'1 1:x\nrefused 5 at 2\n',
+    'a long line after a comment': b'refused 5 at 2\n',
     '65534 bytes without LF': b'2 3:K=1\n',
     '65535 bytes without LF': b'refused 2 at 0\n',
     '65535 bytes with LF': b'2 3:K=1\n',

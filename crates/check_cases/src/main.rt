@@ -19,7 +19,7 @@ fn control_bytes() {
     case(b"control 0D", b"a\nb\x0D\n");
     case(b"control 1F", b"a\n\x1Fb\n");
     case(b"control 7F", b"a\nb\x7F");
-    case(b"tab and 20 are none", b"a\t \n~");
+    case(b"tab and LF are none", b"a\t \n~");
     case(b"control in a comment", b"a\n#\x01\n");
     case(b"the first of two control bytes", b"a\n\x02\n\x03");
     case(

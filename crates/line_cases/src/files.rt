@@ -86,4 +86,5 @@ pub fn lengths() {
     long_case(b"4096 blanks", b"", b' ', 4096, b"");
     long_case(b"4097 blanks", b"", b' ', 4097, b"");
     long_case(b"a long line in line 2", b"x\n", b'a', 4099, b"");
+    long_case(b"a long line after a comment", b"#\n", b'a', 4099, b"");
 }

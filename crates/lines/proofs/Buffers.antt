@@ -62,10 +62,6 @@ module _ {A : Type 0} where
   filled-snoc xs d a h =
       rw (drop-cons d (length xs) a h) (set-at xs _ _ a (length xs) refl ∙ sym (filled-last xs d a))
 
-  -- the last element of what is filled
-  pub set-filled : (xs d : List A) (b a : A) → set (filled (xs ++ b ∷ []) d) (length xs) a ≡ filled (xs ++ a ∷ []) d
-  set-filled xs d b a = rw (filled-last xs d b) (set-at xs _ _ a (length xs) refl ∙ sym (filled-last xs d a))
-
   -- the last element of a part that was put
   pub set-put : (d : List A) (n : ℕ) (p : List A) (b a : A) → n ≤ length d
       → set (put d n (p ++ b ∷ [])) (n + length p) a ≡ put d n (p ++ a ∷ [])

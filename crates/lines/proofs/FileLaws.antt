@@ -17,7 +17,9 @@ use Rattle.lines.specs.Answers.{accepted, refused}
 use Rattle.lines.specs.Files.{checkedFile, unterminated, size, lineAt, firstControl, checkedBytes}
 use Rattle.lines.proofs.Bools.{by-cases, clash, any-all, and-left, and-right, all-append, all-imp, not-true, impossible}
 use Rattle.lines.proofs.LineFeeds.{lineFeeds-append, lineFeeds-length}
-use Rattle.lines.proofs.Utf8Laws.{highByte, Character, character, utf8-append, not-utf8, start-ends}
+use Rattle.lines.proofs.Utf8Laws.{highByte, utf8-append}
+use Rattle.lines.proofs.Characters.{Character, character}
+use Rattle.lines.proofs.LongestStart.{not-utf8, start-ends}
 
 -- ---- size
 

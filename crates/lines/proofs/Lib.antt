@@ -7,6 +7,8 @@ pub mod Slices
 pub mod LineFeeds
 -- UTF-8 and the check of a file
 pub mod Utf8Laws
+pub mod Characters
+pub mod LongestStart
 pub mod Encoded
 pub mod FileLaws
 -- physical and logical lines

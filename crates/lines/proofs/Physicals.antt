@@ -46,7 +46,7 @@ physical-last b (c ∷ cs) n a h =
     rw (not-true (isLF b) (and-left (not (isLF b)) (noLF (c ∷ cs)) h))
     (ap (prepend n b) (physical-last c cs n (suc a) (and-right (not (isLF b)) (noLF (c ∷ cs)) h)))
 
--- ---- a file is a row of lines
+-- ---- cut into physical lines
 
 -- bytes cut into physical lines: the shape by which laws go from line to line
 pub data Cut : Bytes → Type 0 where

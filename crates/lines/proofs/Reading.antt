@@ -1,6 +1,6 @@
 -- Reading on from a cursor: what the answer of the joiner is in each case, and the law that the crates
 -- above rest on (`ahead`): behind the next line stand the lines from the next cursor on, further on in
--- the file, and the line's bytes are paid for by the bytes passed.
+-- the file, and the line has no more bytes than were passed.
 use mathlib.Core.Path.{_≡_, refl, sym, ap, _∙_, subst}
 use mathlib.Core.Logic.{_⊎_, inl, inr}
 use Prim.Native.Nat.{ℕ, zero, suc, _+_, _-_, _≤_, _<_}
@@ -18,9 +18,9 @@ use Rattle.lines.specs.Answers.{Outcome, accepted, refused}
 use Rattle.lines.specs.Buffers.{filled}
 use Rattle.lines.specs.Cursors.{linesAt, logicalFrom, endOf, bytesBetween, cursorPast, nextOf, next, found, answerFor, bytesFor, nextMeans, NextLine}
 use Rattle.lines.specs.LineSteps.{piece, ends, At, PhysicalAt, PieceOf, Skipped, MeasuredAt}
-use Rattle.lines.specs.declared.joiner.Cursor.{Cursor}
+use Rattle.lines.specs.declared.cursor.Cursor.{Cursor}
 use Rattle.lines.specs.declared.joiner.Next.{Next}
-use Rattle.lines.specs.declared.joiner.Physical.{Physical}
+use Rattle.lines.specs.declared.cursor.Physical.{Physical}
 use Rattle.lines.specs.declared.joiner.Piece.{Piece}
 use Rattle.lines.specs.declared.joiner.Measured.{Measured}
 use Rattle.lines.proofs.Bools.{by-cases, clash}

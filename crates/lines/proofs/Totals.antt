@@ -1,5 +1,4 @@
--- The logical lines, with one byte each for their LF, are paid for by the file: together they are at
--- most its size. Physical lines are exactly its size, and joining only shortens.
+-- The logical lines, with one byte each for their LF, are together at most the size of the file. Physical lines are exactly its size, and joining only shortens.
 use mathlib.Core.Path.{_≡_, refl, sym, ap, _∙_}
 use Prim.Native.Nat.{ℕ, suc, _+_, _≤_}
 use native.Mathlib.Omega.{arith}

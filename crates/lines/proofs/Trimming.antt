@@ -100,10 +100,6 @@ trimEnd-tail b bs h = go (trimEnd bs) refl (sym (trimEnd-cons b bs) ∙ h)
         (λ y. let z : b ∷ [] ≡ b ∷ bs = rw y at k in cc)
     go (c ∷ cs) e k = cc
 
-pub trimEnd-suffix : (a b : Bytes) → trimEnd (a ++ b) ≡ a ++ b → trimEnd b ≡ b
-trimEnd-suffix [] b h = h
-trimEnd-suffix (x ∷ a) b h = trimEnd-suffix a b (trimEnd-tail x (a ++ b) h)
-
 pub trimEnd-idem : (l : Bytes) → trimEnd (trimEnd l) ≡ trimEnd l
 unfolding keep
 trimEnd-idem [] = rw (trimEnd-nil, trimEnd-nil)

@@ -3,6 +3,7 @@ use Prim.Native.Nat.{ℕ}
 use Rattle.lines.specs.declared.error.Error.{Error}
 use Rattle.lines.specs.declared.error.Error.the-variants.{ShortBuffer, FileTooLong, NotUtf8, ControlByte, LineTooLong}
 
+-- accepted with a result, or refused with a number and a place
 pub data Outcome (A : Type 0) : Type 0 where
   accepted : A → Outcome A
   refused : ℕ → ℕ → Outcome A
@@ -23,5 +24,6 @@ placeOf (NotUtf8 n) = n
 placeOf (ControlByte n) = n
 placeOf (LineTooLong n) = n
 
+-- an error is a refusal
 abbrev pub errorMeans : {A : Type 0} → Error → Outcome A
 errorMeans e = refused (numberOf e) (placeOf e)

@@ -4,12 +4,15 @@ use mathlib.Core.Bool.{Bool, true, false, not, _&&_, _||_, cond}
 use mathlib.Core.List.{List, [], _∷_}
 use lib.Dec.{leb, eqb}
 
+-- a byte is a number below 256
 abbrev pub Bytes : Type 0
 Bytes = List ℕ
 
+-- from low to high, both included
 abbrev pub between : ℕ → ℕ → ℕ → Bool
 between low high b = leb low b && leb b high
 
+-- the line feed
 abbrev pub isLF : ℕ → Bool
 isLF b = eqb b 0x0A
 

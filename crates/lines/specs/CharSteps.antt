@@ -28,6 +28,7 @@ unfolding inAt lengthBy
 charIn [] t = 0
 charIn (row r rs ∷ qs) t = cond (inAt r 0 t) (lengthBy rs t) (charIn qs t)
 
+-- the same by all rows
 unfoldable pub charLength : Bytes → ℕ
 unfolding charIn rows
 charLength t = charIn rows t

@@ -10,7 +10,7 @@ use Rattle.lines.specs.Bytes.{Bytes, lineFeeds}
 use Rattle.lines.specs.Lines.{Line, physical, joined}
 use Rattle.lines.specs.Answers.{Outcome, accepted, refused, errorMeans}
 use Rattle.lines.specs.Buffers.{filled}
-use Rattle.lines.specs.declared.joiner.Cursor.{Cursor}
+use Rattle.lines.specs.declared.cursor.Cursor.{Cursor}
 use Rattle.lines.specs.declared.joiner.Next.{Next}
 use Rattle.lines.specs.declared.joiner.Next.the-variants.{Found, End, Refused}
 
@@ -64,6 +64,7 @@ pub data Reading : Type 0 where
   found : (size first : ℕ) (next : Cursor) → Reading
   ended : Reading
 
+-- the answer for a next line, for none, and for a refusal
 abbrev pub answerFor : Bytes → Cursor → Outcome (Option Line) → Outcome Reading
 answerFor f c (accepted (some l)) = accepted (found (length (l .bytes)) (l .number) (cursorPast f c l))
 answerFor f c (accepted none) = accepted ended

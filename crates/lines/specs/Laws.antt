@@ -12,7 +12,7 @@ use Rattle.lines.specs.Utf8.{utf8, encoded}
 use Rattle.lines.specs.Lines.{Line, physical, comment, continued, joinNext, joined, logical, written}
 use Rattle.lines.specs.Files.{unterminated, size, checkedFile}
 use Rattle.lines.specs.Cursors.{firstCursor, logicalFrom, cursorPast}
-use Rattle.lines.specs.declared.joiner.Cursor.{Cursor}
+use Rattle.lines.specs.declared.cursor.Cursor.{Cursor}
 
 -- ---- UTF-8
 
@@ -48,6 +48,7 @@ pub record Sound (f : Bytes) : Type 0 where
 abbrev pub CheckedSound : Type 0
 CheckedSound = (f : Bytes) → checkedFile f ≡ accepted tt → Sound f
 
+-- and the other way round
 abbrev pub SoundChecked : Type 0
 SoundChecked = (f : Bytes) → Sound f → checkedFile f ≡ accepted tt
 
@@ -80,6 +81,7 @@ abbrev pub LinesAppend : Type 0
 LinesAppend = (p q : Bytes) (n a : ℕ) → unterminated p ≡ false
     → physical n a (p ++ q) ≡ physical n a p ++ physical (n + lineFeeds p) (a + length p) q
 
+-- the bytes of each line
 abbrev pub bytesOf : List Line → List Bytes
 bytesOf [] = []
 bytesOf (l ∷ ls) = l .bytes ∷ bytesOf ls

@@ -3,9 +3,10 @@ pub mod Bytes
 pub mod Utf8
 pub mod Lines
 pub mod Trim
-pub mod Buffers
+-- what the public functions answer
 pub mod Answers
 pub mod Files
+pub mod Buffers
 pub mod Cursors
 -- what the crates above rest on
 pub mod Laws

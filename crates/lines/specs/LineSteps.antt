@@ -8,8 +8,8 @@ use lib.ListN.{length, drop}
 use Rattle.lines.specs.Bytes.{Bytes, isLF, lineFeeds}
 use Rattle.lines.specs.Lines.{Line, physical, comment, continued, spaced}
 use Rattle.lines.specs.Cursors.{linesAt, endOf, bytesBetween, cursorPast}
-use Rattle.lines.specs.declared.joiner.Cursor.{Cursor}
-use Rattle.lines.specs.declared.joiner.Physical.{Physical}
+use Rattle.lines.specs.declared.cursor.Cursor.{Cursor}
+use Rattle.lines.specs.declared.cursor.Physical.{Physical}
 use Rattle.lines.specs.declared.joiner.Piece.{Piece}
 use Rattle.lines.specs.declared.joiner.Measured.{Measured}
 
@@ -67,6 +67,7 @@ pub record PhysicalAt (f : Bytes) (c : Cursor) (p : Physical) : Type 0 where
   pub stops : p .end ≤ length f
   pub ended-after : p .end ≤ p .next .offset
 
+-- how many bytes a physical line gives, and whether it ends the logical line
 pub record PieceOf (l : Bytes) (p : Piece) : Type 0 where
   pub length-is : p .length ≡ length (piece l)
   pub ends-is : p .ends ≡ ends l

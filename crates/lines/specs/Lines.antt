@@ -41,6 +41,7 @@ comment (b ∷ bs) = eqb b 0x23 || eqb b 0x3B
 
 -- ---- continued lines
 
+-- the backslash
 abbrev pub backslash : ℕ → Bool
 backslash b = eqb b 0x5C
 
@@ -50,6 +51,7 @@ unfolding all
 closingRun [] = 0
 closingRun (b ∷ bs) = cond (all backslash (b ∷ bs)) (length (b ∷ bs)) (closingRun bs)
 
+-- an odd number
 unfoldable pub odd : ℕ → Bool
 odd zero = false
 odd (suc n) = not (odd n)

@@ -11,9 +11,11 @@ use Rattle.lines.specs.Bytes.{Bytes, between}
 pub data Range : Type 0 where
   range : ℕ → ℕ → Range
 
+-- a byte in the range
 abbrev pub within : Range → ℕ → Bool
 within (range low high) b = between low high b
 
+-- the RFC's UTF8-tail
 abbrev pub tail : Range
 tail = range 0x80 0xBF
 
@@ -21,6 +23,7 @@ tail = range 0x80 0xBF
 pub data Row : Type 0 where
   row : Range → List Range → Row
 
+-- the list, row by row
 unfoldable pub rows : List Row
 rows =
     row (range 0x00 0x7F) []
@@ -39,10 +42,12 @@ unfoldable pub headed : ℕ → List Row → Option (List Range)
 headed b [] = none
 headed b (row r rs ∷ qs) = cond (within r b) (some rs) (headed b qs)
 
+-- the same by the whole list
 unfoldable pub heads : ℕ → Option (List Range)
 unfolding headed rows
 heads b = headed b rows
 
+-- no text goes on behind a byte that begins no character
 unfoldable pub after : Option (List Range) → (List Range → Bool) → Bool
 after none go = false
 after (some rs) go = go rs

@@ -11,7 +11,7 @@ ghost use Rattle.lines.specs.Buffers.{put};
 // ---- tests on a byte
 
 // From `low` to `high`, both included.
-fn is_between(low: u8, high: u8, b: u8) -> bool
+pub fn is_between(low: u8, high: u8, b: u8) -> bool
     ensures { λ r. ⌜ r ≡ between low high b ⌝ }
 {
     low <= b && b <= high

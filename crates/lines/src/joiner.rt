@@ -1,28 +1,15 @@
 // The line joiner: one logical line after the other.
 use crate::bytes::copy_into;
+use crate::cursor::Cursor;
+use crate::cursor::physical_line;
 use crate::error::Error;
 ghost use mathlib.Core.Path.{_≡_};
-ghost use Prim.Native.Nat.{_+_, _≤_, _<_};
-ghost use lib.ListN.{length, drop};
+ghost use Prim.Native.Nat.{_+_, _≤_};
+ghost use lib.ListN.{length};
 ghost use Rattle.lines.specs.Lines.{comment, continued};
 ghost use Rattle.lines.specs.Buffers.{filled, put};
-ghost use Rattle.lines.specs.Cursors.{firstCursor, linesAt, NextLine};
-ghost use Rattle.lines.specs.LineSteps.{lineLength, piece, ends, firstBytes, At, Standing, PhysicalAt, PieceOf, Skipped, MeasuredAt};
-
-// Where reading goes on: an offset of the file, and the number of its line.
-pub struct Cursor {
-    pub offset: usize,
-    pub line: usize,
-}
-
-impl Cursor {
-    // At the first byte, in line 1.
-    pub fn first() -> Cursor
-        ensures { λ r. ⌜ r ≡ firstCursor ⌝ }
-    {
-        Cursor { offset: 0, line: 1 }
-    }
-}
+ghost use Rattle.lines.specs.Cursors.{linesAt, NextLine};
+ghost use Rattle.lines.specs.LineSteps.{piece, firstBytes, Standing, PieceOf, Skipped, MeasuredAt};
 
 pub enum Next {
     // The line's length, the number of its first physical line, and where to go on.
@@ -34,12 +21,6 @@ pub enum Next {
     // No line is left.
     End,
     Refused(Error),
-}
-
-// The end of a physical line, without its LF, and where the next one starts.
-struct Physical {
-    end: usize,
-    next: Cursor,
 }
 
 // How many bytes a physical line gives to its logical line, and whether it ends that one.
@@ -54,42 +35,6 @@ struct Measured {
     next: Cursor,
 }
 
-// The offset of the first LF from `at` on, or the file's end.
-fn line_end(file: &[u8], at: usize) -> usize
-    ensures { λ r. ⌜ r ≡ at + lineLength (drop at (now (file .entry))) ⌝ }
-{
-    let mut i = at;
-    while i < file.len() {
-        if file[i] == b'\n' {
-            return i;
-        }
-        i += 1;
-    }
-    i
-}
-
-fn physical_line(file: &[u8], c: Cursor) -> Physical
-    requires { ⌜ At (now file) c ⌝ }
-    ensures { λ r. ⌜ PhysicalAt (now (file .entry)) c r ⌝ }
-{
-    let at = c.offset;
-    let line = c.line;
-    let end = line_end(file, at);
-    if end < file.len() {
-        return Physical {
-            end,
-            next: Cursor {
-                offset: end + 1,
-                line: line + 1,
-            },
-        };
-    }
-    Physical {
-        end,
-        next: Cursor { offset: end, line },
-    }
-}
-
 // Whether a line is a comment, by its bytes or by the bytes from its start on.
 fn is_comment(text: &[u8]) -> bool
     ensures { λ r. ⌜ r ≡ comment (now (text .entry)) ⌝ }
@@ -101,7 +46,7 @@ fn is_comment(text: &[u8]) -> bool
     b == b'#' || b == b';'
 }
 
-// Counts the closing run of backslashes from the end.
+// Whether the closing run of backslashes is odd. It goes over the run from the end.
 fn is_continued(line: &[u8]) -> bool
     ensures { λ r. ⌜ r ≡ continued (now (line .entry)) ⌝ }
 {
@@ -117,6 +62,7 @@ fn is_continued(line: &[u8]) -> bool
     odd
 }
 
+// What a physical line gives to its logical line.
 fn piece_of(line: &[u8]) -> Piece
     ensures { λ r. ⌜ PieceOf (now (line .entry)) r ⌝ }
 {
@@ -151,6 +97,7 @@ fn copy_piece(line: &[u8], buffer: &mut [u8], n: usize) -> Piece
     p
 }
 
+// The first line from a cursor on that is no comment, or the file's end.
 fn skip_comments(file: &[u8], start: Cursor) -> Cursor
     requires { ⌜ (start .offset ≤ length (now file)) × (start .line ≤ start .offset + 1) ⌝ }
     ensures { λ r. ⌜ Skipped (now (file .entry)) start r ⌝ }
@@ -168,6 +115,7 @@ fn skip_comments(file: &[u8], start: Cursor) -> Cursor
     c
 }
 
+// The length of the logical line at a cursor, and the cursor past it.
 fn measure(file: &[u8], start: Cursor) -> Measured
     requires { ⌜ Standing (now file) start ⌝ }
     ensures { λ r. ⌜ MeasuredAt (now (file .entry)) start r ⌝ }

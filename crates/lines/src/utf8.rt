@@ -1,4 +1,5 @@
 // UTF-8, by the rows of RFC 3629, section 4.
+use crate::bytes::is_between;
 ghost use mathlib.Core.Path.{_≡_};
 ghost use mathlib.Core.List.{[], _∷_};
 ghost use Rattle.lines.specs.Utf8.{range, tail, longestStart};
@@ -11,8 +12,7 @@ fn in_range(text: &[u8], at: usize, low: u8, high: u8) -> bool
     if text.len() <= at {
         return false;
     }
-    let b = text[at];
-    low <= b && b <= high
+    is_between(low, high, text[at])
 }
 
 // The length of a character of two bytes, by its second byte; 0 where that is missing or wrong.

@@ -72,7 +72,7 @@ fn list_line(file: &[u8], cursor: Cursor, buffer: &mut [u8], most: usize) -> Ste
     }
 }
 
-// No file that is accepted has more lines than bytes.
+// 65,536 turns suffice: each line takes a byte or more of at most 65,535.
 fn list_lines(file: &[u8], buffer: &mut [u8], most: usize) {
     let mut cursor = Cursor::first();
     for _ in 0..65536usize {

@@ -5,7 +5,7 @@ use borrow.Author.Needs.{needs}
 use Rattle.lines.specs.Bytes.{Bytes}
 use Rattle.lines.specs.Utf8.{rows}
 use Rattle.lines.specs.CharSteps.{begins, lengthBy, charIn}
-use Rattle.lines.proofs.Utf8Laws.{hasFirst, follows, PastRows, past-none, past-more, row-decides}
+use Rattle.lines.proofs.Characters.{hasFirst, follows, PastRows, past-none, past-more, row-decides}
 use Rattle.lines.proofs.utf8.char_length.Statement.{statement}
 use Rattle.lines.proofs.utf8.char_length.Tie as tie
 

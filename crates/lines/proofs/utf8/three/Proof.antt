@@ -4,7 +4,7 @@ use mathlib.Core.List.{[], _∷_}
 use denote.Ref.{now}
 use borrow.Author.Needs.{needs}
 use Rattle.lines.specs.Utf8.{range, tail}
-use Rattle.lines.proofs.Utf8Laws.{by-index, inEach}
+use Rattle.lines.proofs.Characters.{by-index, inEach}
 use Rattle.lines.proofs.utf8.three.Statement.{statement}
 use Rattle.lines.proofs.utf8.three.Tie as tie
 

@@ -10,7 +10,8 @@ use borrow.Author.Needs.{needs}
 use Rattle.lines.specs.Utf8.{well, utf8}
 use Rattle.lines.specs.CharSteps.{charLength}
 use Rattle.lines.proofs.Slices.{part-from}
-use Rattle.lines.proofs.Utf8Laws.{char-nil, more-fits, more-legal, start-ends}
+use Rattle.lines.proofs.Characters.{char-nil}
+use Rattle.lines.proofs.LongestStart.{more-fits, more-legal, start-ends}
 use Rattle.lines.proofs.utf8.well_formed_length.Statement.{statement}
 use Rattle.lines.proofs.utf8.well_formed_length.Tie as tie
 
