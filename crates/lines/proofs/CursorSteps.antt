@@ -12,8 +12,8 @@ use Rattle.lines.specs.Bytes.{Bytes, lineFeeds}
 use Rattle.lines.specs.Lines.{physical, comment}
 use Rattle.lines.specs.Cursors.{bytesBetween}
 use Rattle.lines.specs.LineSteps.{lineLength, At, Onward, PhysicalAt}
-use Rattle.lines.specs.declared.cursor.Cursor.{Cursor}
-use Rattle.lines.specs.declared.cursor.Physical.{Physical}
+use Rattle.lines.specs.declared.joiner.Cursor.{Cursor}
+use Rattle.lines.specs.declared.joiner.Physical.{Physical}
 use Rattle.lines.proofs.Bools.{by-cases}
 use Rattle.lines.proofs.LineFeeds.{lineFeeds-append, lineFeeds-length}
 use Rattle.lines.proofs.Physicals.{lineFeeds-none, lineLength-le, line-noLF, line-then, line-alone, physical-shut, physical-open, comment-line}

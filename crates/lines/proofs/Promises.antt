@@ -14,7 +14,7 @@ use Rattle.lines.specs.Answers.{Outcome, accepted, refused, numberOf, pl
 use Rattle.lines.specs.Buffers.{filled}
 use Rattle.lines.specs.Cursors.{logicalFrom, cursorPast, next, found, ended, answerFor, bytesFor, NextLine}
 use Rattle.lines.specs.declared.error.Error.{Error}
-use Rattle.lines.specs.declared.cursor.Cursor.{Cursor}
+use Rattle.lines.specs.declared.joiner.Cursor.{Cursor}
 use Rattle.lines.specs.declared.joiner.Next.the-variants.{Found, End, Refused}
 use Rattle.lines.proofs.Bools.{by-cases, clash}
 use Rattle.lines.proofs.Reading.{ahead, next-short, next-none, next-found, next-long}

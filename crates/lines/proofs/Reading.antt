@@ -18,9 +18,9 @@ use Rattle.lines.specs.Answers.{Outcome, accepted, refused}
 use Rattle.lines.specs.Buffers.{filled}
 use Rattle.lines.specs.Cursors.{linesAt, logicalFrom, endOf, bytesBetween, cursorPast, nextOf, next, found, answerFor, bytesFor, nextMeans, NextLine}
 use Rattle.lines.specs.LineSteps.{piece, ends, At, PhysicalAt, PieceOf, Skipped, MeasuredAt}
-use Rattle.lines.specs.declared.cursor.Cursor.{Cursor}
+use Rattle.lines.specs.declared.joiner.Cursor.{Cursor}
 use Rattle.lines.specs.declared.joiner.Next.{Next}
-use Rattle.lines.specs.declared.cursor.Physical.{Physical}
+use Rattle.lines.specs.declared.joiner.Physical.{Physical}
 use Rattle.lines.specs.declared.joiner.Piece.{Piece}
 use Rattle.lines.specs.declared.joiner.Measured.{Measured}
 use Rattle.lines.proofs.Bools.{by-cases, clash}

@@ -11,8 +11,8 @@ use Rattle.lines.specs.Lines.{Line, physical, comment, joined}
 use Rattle.lines.specs.Buffers.{filled, put}
 use Rattle.lines.specs.Cursors.{linesAt, bytesBetween, cursorPast}
 use Rattle.lines.specs.LineSteps.{textOf, piece, ends, firstBytes, At, Standing, Onward, PhysicalAt, PieceOf, MeasuredAt}
-use Rattle.lines.specs.declared.cursor.Cursor.{Cursor}
-use Rattle.lines.specs.declared.cursor.Physical.{Physical}
+use Rattle.lines.specs.declared.joiner.Cursor.{Cursor}
+use Rattle.lines.specs.declared.joiner.Physical.{Physical}
 use Rattle.lines.specs.declared.joiner.Piece.{Piece}
 use Rattle.lines.proofs.Buffers.{filled-put}
 use Rattle.lines.proofs.Bools.{by-cases}

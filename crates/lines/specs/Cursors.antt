@@ -10,7 +10,7 @@ use Rattle.lines.specs.Bytes.{Bytes, lineFeeds}
 use Rattle.lines.specs.Lines.{Line, physical, joined}
 use Rattle.lines.specs.Answers.{Outcome, accepted, refused, errorMeans}
 use Rattle.lines.specs.Buffers.{filled}
-use Rattle.lines.specs.declared.cursor.Cursor.{Cursor}
+use Rattle.lines.specs.declared.joiner.Cursor.{Cursor}
 use Rattle.lines.specs.declared.joiner.Next.{Next}
 use Rattle.lines.specs.declared.joiner.Next.the-variants.{Found, End, Refused}
 

@@ -12,7 +12,7 @@ use Rattle.lines.specs.Utf8.{utf8, encoded}
 use Rattle.lines.specs.Lines.{Line, physical, comment, continued, joinNext, joined, logical, written}
 use Rattle.lines.specs.Files.{unterminated, size, checkedFile}
 use Rattle.lines.specs.Cursors.{firstCursor, logicalFrom, cursorPast}
-use Rattle.lines.specs.declared.cursor.Cursor.{Cursor}
+use Rattle.lines.specs.declared.joiner.Cursor.{Cursor}
 
 -- ---- UTF-8
 

@@ -8,8 +8,8 @@ use lib.ListN.{length, drop}
 use Rattle.lines.specs.Bytes.{Bytes, isLF, lineFeeds}
 use Rattle.lines.specs.Lines.{Line, physical, comment, continued, spaced}
 use Rattle.lines.specs.Cursors.{linesAt, endOf, bytesBetween, cursorPast}
-use Rattle.lines.specs.declared.cursor.Cursor.{Cursor}
-use Rattle.lines.specs.declared.cursor.Physical.{Physical}
+use Rattle.lines.specs.declared.joiner.Cursor.{Cursor}
+use Rattle.lines.specs.declared.joiner.Physical.{Physical}
 use Rattle.lines.specs.declared.joiner.Piece.{Piece}
 use Rattle.lines.specs.declared.joiner.Measured.{Measured}
 

@@ -1,15 +1,30 @@
 // The line joiner: one logical line after the other.
 use crate::bytes::copy_into;
-use crate::cursor::Cursor;
-use crate::cursor::physical_line;
 use crate::error::Error;
+use crate::physical::is_comment;
+use crate::physical::is_continued;
+use crate::physical::line_end;
 ghost use mathlib.Core.Path.{_≡_};
 ghost use Prim.Native.Nat.{_+_, _≤_};
 ghost use lib.ListN.{length};
-ghost use Rattle.lines.specs.Lines.{comment, continued};
 ghost use Rattle.lines.specs.Buffers.{filled, put};
-ghost use Rattle.lines.specs.Cursors.{linesAt, NextLine};
-ghost use Rattle.lines.specs.LineSteps.{piece, firstBytes, Standing, PieceOf, Skipped, MeasuredAt};
+ghost use Rattle.lines.specs.Cursors.{firstCursor, linesAt, NextLine};
+ghost use Rattle.lines.specs.LineSteps.{piece, firstBytes, At, PhysicalAt, Standing, PieceOf, Skipped, MeasuredAt};
+
+// Where reading goes on: an offset of the file, and the number of its line.
+pub struct Cursor {
+    pub offset: usize,
+    pub line: usize,
+}
+
+impl Cursor {
+    // At the first byte, in line 1.
+    pub fn first() -> Cursor
+        ensures { λ r. ⌜ r ≡ firstCursor ⌝ }
+    {
+        Cursor { offset: 0, line: 1 }
+    }
+}
 
 pub enum Next {
     // The line's length, the number of its first physical line, and where to go on.
@@ -21,6 +36,12 @@ pub enum Next {
     // No line is left.
     End,
     Refused(Error),
+}
+
+// The end of a physical line, without its LF, and where the next one starts.
+struct Physical {
+    end: usize,
+    next: Cursor,
 }
 
 // How many bytes a physical line gives to its logical line, and whether it ends that one.
@@ -35,31 +56,27 @@ struct Measured {
     next: Cursor,
 }
 
-// Whether a line is a comment, by its bytes or by the bytes from its start on.
-fn is_comment(text: &[u8]) -> bool
-    ensures { λ r. ⌜ r ≡ comment (now (text .entry)) ⌝ }
+// The physical line at a cursor.
+fn physical_line(file: &[u8], c: Cursor) -> Physical
+    requires { ⌜ At (now file) c ⌝ }
+    ensures { λ r. ⌜ PhysicalAt (now (file .entry)) c r ⌝ }
 {
-    if text.len() == 0 {
-        return false;
+    let at = c.offset;
+    let line = c.line;
+    let end = line_end(file, at);
+    if end < file.len() {
+        return Physical {
+            end,
+            next: Cursor {
+                offset: end + 1,
+                line: line + 1,
+            },
+        };
     }
-    let b = text[0];
-    b == b'#' || b == b';'
-}
-
-// Whether the closing run of backslashes is odd. It goes over the run from the end.
-fn is_continued(line: &[u8]) -> bool
-    ensures { λ r. ⌜ r ≡ continued (now (line .entry)) ⌝ }
-{
-    let mut n = line.len();
-    let mut odd = false;
-    while 0 < n {
-        if line[n - 1] != b'\\' {
-            return odd;
-        }
-        n -= 1;
-        odd = !odd;
+    Physical {
+        end,
+        next: Cursor { offset: end, line },
     }
-    odd
 }
 
 // What a physical line gives to its logical line.

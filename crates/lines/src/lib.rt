@@ -1,9 +1,9 @@
 // Settings files, from bytes to logical lines.
 mod bytes;
-mod cursor;
 mod error;
 mod file;
 mod joiner;
+mod physical;
 mod utf8;
 
 pub use bytes::copy_into;
@@ -17,10 +17,10 @@ pub use bytes::same;
 pub use bytes::trim;
 pub use bytes::trim_end;
 pub use bytes::trim_start;
-pub use cursor::Cursor;
 pub use error::Error;
 pub use file::Check;
 pub use file::check_file;
+pub use joiner::Cursor;
 pub use joiner::Next;
 pub use joiner::next_line;
 pub use utf8::well_formed_length;

@@ -10,8 +10,8 @@ use borrow.Author.Tests.{eq-eqb, ne-eqb}
 use Rattle.lines.specs.Bytes.{Bytes}
 use Rattle.lines.specs.Lines.{comment}
 use Rattle.lines.proofs.Physicals.{comment-first}
-use Rattle.lines.proofs.joiner.is_comment.Statement.{statement}
-use Rattle.lines.proofs.joiner.is_comment.Tie as tie
+use Rattle.lines.proofs.physical.is_comment.Statement.{statement}
+use Rattle.lines.proofs.physical.is_comment.Tie as tie
 
 empty : (l : Bytes) → length l ≡ 0 → false ≡ comment l
 empty [] e = sym (comment-first [])

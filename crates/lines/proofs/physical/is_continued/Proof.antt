@@ -9,8 +9,8 @@ use borrow.Author.Tests.{eq-eqb, ne-eqb}
 use Rattle.lines.specs.Bytes.{all}
 use Rattle.lines.specs.Lines.{backslash, odd, continued}
 use Rattle.lines.proofs.Runs.{run-none, run-more, run-stops, closing-all}
-use Rattle.lines.proofs.joiner.is_continued.Statement.{statement}
-use Rattle.lines.proofs.joiner.is_continued.Tie as tie
+use Rattle.lines.proofs.physical.is_continued.Statement.{statement}
+use Rattle.lines.proofs.physical.is_continued.Tie as tie
 
 abbrev Inv-loop : tie.InvT-loop
 Inv-loop line n₀ o₀ n o = (n ≤ length line) × (all backslash (drop n line) ≡ true) × (o ≡ odd (length line - n))

@@ -2,8 +2,8 @@
 use denote.Ref.{now}
 use Rattle.lines.proofs.CursorSteps.{at-shut, at-open}
 use borrow.Author.Needs.{needs}
-use Rattle.lines.proofs.cursor.physical_line.Statement.{statement}
-use Rattle.lines.proofs.cursor.physical_line.Tie as tie
+use Rattle.lines.proofs.joiner.physical_line.Statement.{statement}
+use Rattle.lines.proofs.joiner.physical_line.Tie as tie
 
 line-end-requires : tie.Need-line-end-requires
 line-end-requires c κs = search needs

@@ -7,8 +7,8 @@ use denote.Ref.{now}
 use borrow.Author.Tests.{eq-eqb, ne-eqb}
 use Rattle.lines.specs.LineSteps.{lineLength}
 use Rattle.lines.proofs.Physicals.{lineLength-lf, lineLength-more, lineLength-end}
-use Rattle.lines.proofs.cursor.line_end.Statement.{statement}
-use Rattle.lines.proofs.cursor.line_end.Tie as tie
+use Rattle.lines.proofs.physical.line_end.Statement.{statement}
+use Rattle.lines.proofs.physical.line_end.Tie as tie
 
 abbrev Inv-loop : tie.InvT-loop
 Inv-loop file at i₀ i = (at ≤ i) × (i + lineLength (drop i file) ≡ at + lineLength (drop at file))
