@@ -81,18 +81,18 @@ by-index rs t = rw (begins-each rs 1 t)
 
 -- the length of a character whose first byte asks for some ranges
 unfoldable pub lengthAfter : Option (List Range) → Bytes → ℕ
-unfolding begins
-lengthAfter none bs = 0
-lengthAfter (some rs) bs = cond (begins rs bs) (suc (length rs)) 0
+unfolding lengthBy
+lengthAfter none t = 0
+lengthAfter (some rs) t = lengthBy rs t
 
-charIn-headed : (qs : List Row) (b : ℕ) (bs : Bytes) → charIn qs (b ∷ bs) ≡ lengthAfter (headed b qs) bs
+charIn-headed : (qs : List Row) (b : ℕ) (bs : Bytes) → charIn qs (b ∷ bs) ≡ lengthAfter (headed b qs) (b ∷ bs)
 unfolding charIn headed lengthAfter inAt lengthBy
 charIn-headed [] b bs = refl
 charIn-headed (row r rs ∷ qs) b bs =
     rw (lt-ltb 0 (suc (length bs)) (omega arith))
     (by-cases (within r b) (λ e. rw e) (λ e. rw e (charIn-headed qs b bs)))
 
-pub char-headed : (b : ℕ) (bs : Bytes) → charLength (b ∷ bs) ≡ lengthAfter (heads b) bs
+pub char-headed : (b : ℕ) (bs : Bytes) → charLength (b ∷ bs) ≡ lengthAfter (heads b) (b ∷ bs)
 unfolding charLength heads
 char-headed b bs = charIn-headed rows b bs
 
@@ -113,10 +113,10 @@ not-begun (suc n) (b ∷ bs) (r ∷ rs) h =
 
 -- then no start but the empty one is well-formed
 pub no-start : (n : ℕ) (b : ℕ) (bs : Bytes) → charLength (b ∷ bs) ≡ 0 → utf8 (take (suc n) (b ∷ bs)) ≡ false
-unfolding utf8 well lengthAfter after
+unfolding utf8 well lengthAfter lengthBy after
 no-start n b bs h = go (heads b) (sym (char-headed b bs) ∙ h)
   where
-    go : (o : Option (List Range)) → lengthAfter o bs ≡ 0 → after o (λ rs. well rs (take n bs)) ≡ false
+    go : (o : Option (List Range)) → lengthAfter o (b ∷ bs) ≡ 0 → after o (λ rs. well rs (take n bs)) ≡ false
     go none k = refl
     go (some rs) k =
         by-cases (begins rs bs)
@@ -160,10 +160,10 @@ begun-high (range low top ∷ rs) (b ∷ bs) hr h =
     (begun-high rs bs (and-right (leb 0x80 low) (high rs) hr) (and-right (between low top b) (begins rs bs) h))
 
 pub character : (b : ℕ) (bs : Bytes) (k : ℕ) → charLength (b ∷ bs) ≡ suc k → Character b bs k
-unfolding utf8 well lengthAfter after highAfter
+unfolding utf8 well lengthAfter lengthBy after highAfter
 character b bs k h = go (heads b) refl (heads-high b) (sym (char-headed b bs) ∙ h)
   where
-    go : (o : Option (List Range)) → heads b ≡ o → highAfter o ≡ true → lengthAfter o bs ≡ suc k → Character b bs k
+    go : (o : Option (List Range)) → heads b ≡ o → highAfter o ≡ true → lengthAfter o (b ∷ bs) ≡ suc k → Character b bs k
     go none q hi e = absurd (omega arith)
     go (some rs) q hi e =
         by-cases (begins rs bs)

@@ -1,5 +1,5 @@
 -- The laws that specs/Laws.antt states, each by the module that proves it.
-use Rattle.lines.specs.Laws.{Utf8Splits, Utf8Appends, AsciiUtf8, EncodedUtf8, CheckedSound, SoundChecked, CommentDropped, LineKept, LineContinued, CommentAnywhere, NoComment, LinesAppend, NumbersApart, ReadsAll, ReadsOn, LinesFit, ReadBack, LinesSettled, WrittenLegal}
+use Rattle.lines.specs.Laws.{Utf8Splits, Utf8Appends, AsciiUtf8, EncodedUtf8, CheckedSound, SoundChecked, CommentDropped, LineKept, LineContinued, CommentAnywhere, NoComment, LinesAppend, NumbersApart, ReadsAll, ReadsOn, FoundTells, EndTells, RefusedTells, LinesFit, ReadBack, LinesSettled, WrittenLegal}
 use Rattle.lines.proofs.Utf8Laws.{utf8-split, utf8-append, utf8-ascii}
 use Rattle.lines.proofs.Encoded.{encoded-utf8}
 use Rattle.lines.proofs.FileLaws.{checked-sound, sound-checked}
@@ -7,6 +7,7 @@ use Rattle.lines.proofs.Physicals.{no-comment}
 use Rattle.lines.proofs.Appending.{physical-append}
 use Rattle.lines.proofs.Joining.{joined-comment, joined-line, joined-continued, joined-without, numbers-apart}
 use Rattle.lines.proofs.Reading.{from-start, ahead}
+use Rattle.lines.proofs.Promises.{found-line, ended-line, long-line}
 use Rattle.lines.proofs.Totals.{logical-total}
 use Rattle.lines.proofs.Whole.{logical-written}
 use Rattle.lines.proofs.Legal.{logical-settled, written-legal}
@@ -55,6 +56,15 @@ reads-all = from-start
 
 pub reads-on : ReadsOn
 reads-on = ahead
+
+pub found-tells : FoundTells
+found-tells = found-line
+
+pub end-tells : EndTells
+end-tells = ended-line
+
+pub refused-tells : RefusedTells
+refused-tells = long-line
 
 pub lines-fit : LinesFit
 lines-fit = logical-total

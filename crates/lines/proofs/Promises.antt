@@ -1,6 +1,6 @@
 -- What the promise of `next_line` tells a caller, for each answer.
 use mathlib.Core.Path.{_≡_, refl, ap, _∙_}
-use Prim.Native.Nat.{ℕ, _+_, _≤_, _<_}
+use Prim.Native.Nat.{ℕ, _≤_, _<_}
 use native.Mathlib.Omega.{arith}
 use mathlib.Core.Option.{Option, none, some}
 use mathlib.Core.List.{List, [], _∷_}
@@ -16,6 +16,7 @@ use Rattle.lines.specs.Cursors.{logicalFrom, cursorPast, next, found, en
 use Rattle.lines.specs.declared.error.Error.{Error}
 use Rattle.lines.specs.declared.joiner.Cursor.{Cursor}
 use Rattle.lines.specs.declared.joiner.Next.the-variants.{Found, End, Refused}
+use Rattle.lines.specs.Laws.{FoundLine, LongLine}
 use Rattle.lines.proofs.Bools.{by-cases, clash}
 use Rattle.lines.proofs.Reading.{ahead, next-short, next-none, next-found, next-long}
 
@@ -39,30 +40,6 @@ case f c n =
         by-cases (ltb 4096 (length (l .bytes)))
         (λ b. long l ls h e (ltb-true _ _ b) (next-long f c n h l ls e (ltb-true _ _ b)))
         (λ b. line l ls h e (ltb-false _ _ b) (next-found f c n h l ls e (ltb-false _ _ b)))
-
--- ---- a line was found
-
-pub record FoundLine (f : Bytes) (c : Cursor) (before after : Bytes) (n m : ℕ) (d : Cursor) : Type 0 where
-  pub line : Line
-  pub view : logicalFrom f c ≡ line ∷ logicalFrom f d
-  pub number-is : line .number ≡ m
-  pub length-is : length (line .bytes) ≡ n
-  pub fits : n ≤ 4096
-  pub buffer : after ≡ filled (line .bytes) before
-  pub inside : d .offset ≤ length f
-  pub later : c .offset < d .offset
-  pub shorter : c .offset + n ≤ d .offset
-
--- ---- the next line is too long
-
-pub record LongLine (f : Bytes) (c : Cursor) (before after : Bytes) (e : Error) : Type 0 where
-  pub line : Line
-  pub others : List Line
-  pub view : logicalFrom f c ≡ line ∷ others
-  pub long : 4096 < length (line .bytes)
-  pub number : numberOf e ≡ 5
-  pub place : placeOf e ≡ line .number
-  pub kept : after ≡ before
 
 -- ---- one law for each answer
 

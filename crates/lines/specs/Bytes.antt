@@ -4,7 +4,7 @@ use mathlib.Core.Bool.{Bool, true, false, not, _&&_, _||_, cond}
 use mathlib.Core.List.{List, [], _∷_}
 use lib.Dec.{leb, eqb}
 
--- a byte is a number below 256
+-- bytes by their numbers, which are below 256 in a file
 abbrev pub Bytes : Type 0
 Bytes = List ℕ
 

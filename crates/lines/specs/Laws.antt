@@ -7,12 +7,15 @@ use mathlib.Core.List.{List, [], _∷_, _++_}
 use lib.ListN.{length}
 use lib.Dec.{leb, eqb}
 use Rattle.lines.specs.Bytes.{Bytes, isLF, blank, control, between, all, lineFeeds}
-use Rattle.lines.specs.Answers.{accepted}
+use Rattle.lines.specs.Answers.{accepted, numberOf, placeOf}
 use Rattle.lines.specs.Utf8.{utf8, encoded}
 use Rattle.lines.specs.Lines.{Line, physical, comment, continued, joinNext, joined, logical, written}
 use Rattle.lines.specs.Files.{unterminated, size, checkedFile}
-use Rattle.lines.specs.Cursors.{firstCursor, logicalFrom, cursorPast}
+use Rattle.lines.specs.Cursors.{firstCursor, logicalFrom, cursorPast, NextLine}
+use Rattle.lines.specs.Buffers.{filled}
+use Rattle.lines.specs.declared.error.Error.{Error}
 use Rattle.lines.specs.declared.joiner.Cursor.{Cursor}
+use Rattle.lines.specs.declared.joiner.Next.the-variants.{Found, End, Refused}
 
 -- ---- UTF-8
 
@@ -109,6 +112,44 @@ pub record Ahead (f : Bytes) (c : Cursor) (l : Line) (ls : List Line) : Type 0 w
 -- this holds of each line that is next
 abbrev pub ReadsOn : Type 0
 ReadsOn = (f : Bytes) (c : Cursor) (l : Line) (ls : List Line) → logicalFrom f c ≡ l ∷ ls → Ahead f c l ls
+
+-- ---- what the promise of `next_line` tells a caller
+
+-- A line was found: it is the next one, it stands at the front of the buffer, and the lines from the
+-- next cursor on are the others.
+pub record FoundLine (f : Bytes) (c : Cursor) (before after : Bytes) (n m : ℕ) (d : Cursor) : Type 0 where
+  pub line : Line
+  pub view : logicalFrom f c ≡ line ∷ logicalFrom f d
+  pub number-is : line .number ≡ m
+  pub length-is : length (line .bytes) ≡ n
+  pub fits : n ≤ 4096
+  pub buffer : after ≡ filled (line .bytes) before
+  pub inside : d .offset ≤ length f
+  pub later : c .offset < d .offset
+  pub shorter : c .offset + n ≤ d .offset
+
+abbrev pub FoundTells : Type 0
+FoundTells = (f : Bytes) (c : Cursor) (before after : Bytes) (n m : ℕ) (d : Cursor)
+    → NextLine f c before after (Found n m d) → FoundLine f c before after n m d
+
+-- no line is left, and the buffer is as it was
+abbrev pub EndTells : Type 0
+EndTells = (f : Bytes) (c : Cursor) (before after : Bytes)
+    → NextLine f c before after End → (logicalFrom f c ≡ []) × (after ≡ before)
+
+-- With a buffer that is long enough, a refusal is 5: the next line is too long. The buffer is as it was.
+pub record LongLine (f : Bytes) (c : Cursor) (before after : Bytes) (e : Error) : Type 0 where
+  pub line : Line
+  pub others : List Line
+  pub view : logicalFrom f c ≡ line ∷ others
+  pub long : 4096 < length (line .bytes)
+  pub number : numberOf e ≡ 5
+  pub place : placeOf e ≡ line .number
+  pub kept : after ≡ before
+
+abbrev pub RefusedTells : Type 0
+RefusedTells = (f : Bytes) (c : Cursor) (before after : Bytes) (e : Error)
+    → 4096 ≤ length before → NextLine f c before after (Refused e) → LongLine f c before after e
 
 -- ---- sizes
 
