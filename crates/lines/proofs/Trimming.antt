@@ -3,7 +3,7 @@ use mathlib.Core.Path.{_≡_, refl, sym, ap, _∙_}
 use Prim.Native.Nat.{ℕ, suc, _+_, _-_, _≤_, _<_}
 use native.Mathlib.Omega.{arith}
 use mathlib.Core.Bool.{true, false, not, _&&_, cond}
-use mathlib.Core.List.{[], _∷_, _++_}
+use mathlib.Core.List.{[], _∷_, _++_, append-nil, append-assoc}
 use native.Mathlib.Numerals.{add-one}
 use lib.ListN.{length, take, drop, getD, drop-of-length-le}
 use lib.Seq.{drop-cons, take-suc}
@@ -35,6 +35,13 @@ unfolding trimStart
 length-trimStart [] = omega arith
 length-trimStart (b ∷ bs) = by-cases (blank b) (λ e. rw e (omega (arith, length-trimStart bs))) (λ e. rw e (omega arith))
 
+-- blanks before a text
+pub trimStart-blanks : (a t : Bytes) → all blank a ≡ true → trimStart (a ++ t) ≡ trimStart t
+unfolding all
+trimStart-blanks [] t h = refl
+trimStart-blanks (b ∷ a) t h =
+    trimStart-blank b (a ++ t) (and-left (blank b) (all blank a) h) ∙ trimStart-blanks a t (and-right (blank b) (all blank a) h)
+
 -- ---- at the end
 
 -- a byte in front of what is left: a blank alone goes too
@@ -63,6 +70,15 @@ pub trimEnd-blank : (l : Bytes) (b : ℕ) → blank b ≡ true → trimEnd (l ++
 unfolding keep
 trimEnd-blank [] b h = trimEnd-cons b [] ∙ rw (trimEnd-nil, h)
 trimEnd-blank (a ∷ l) b h = trimEnd-cons a (l ++ b ∷ []) ∙ rw (trimEnd-blank l b h) (sym (trimEnd-cons a l))
+
+-- blanks behind a text
+pub trimEnd-blanks : (a t : Bytes) → all blank a ≡ true → trimEnd (t ++ a) ≡ trimEnd t
+unfolding all
+trimEnd-blanks [] t h = rw append-nil
+trimEnd-blanks (b ∷ a) t h =
+    ap trimEnd (sym (append-assoc t (b ∷ []) a))
+    ∙ trimEnd-blanks a (t ++ b ∷ []) (and-right (blank b) (all blank a) h)
+    ∙ trimEnd-blank t b (and-left (blank b) (all blank a) h)
 
 pub trimEnd-space : (l : Bytes) → trimEnd (l ++ 0x20 ∷ []) ≡ trimEnd l
 trimEnd-space l = trimEnd-blank l 0x20 refl
@@ -132,6 +148,11 @@ trimStart-trimEnd (b ∷ bs) =
     by-cases (blank b)
     (λ e. rw (trimStart-blank b bs e) (trimStart-trimEnd bs))
     (λ e. rw (trimStart-nonblank b bs e, trimEnd-cons b bs, keep-nonblank b (trimEnd bs) e) (trimStart-nonblank b (trimEnd bs) e))
+
+-- no blank is left at the start
+pub trimmed-start : (l : Bytes) → trimStart (trimmed l) ≡ trimmed l
+unfolding trimmed
+trimmed-start l = trimStart-trimEnd l
 
 pub trim-idem : (l : Bytes) → trimmed (trimmed l) ≡ trimmed l
 unfolding trimmed

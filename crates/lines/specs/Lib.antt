@@ -1,5 +1,6 @@
 -- What `lines` promises, in the order of the rules.
 pub mod Bytes
+pub mod Text
 pub mod Utf8
 pub mod Lines
 pub mod Trim
