@@ -1,0 +1,197 @@
+// Time spans.
+use crate::amount::Amount;
+use crate::amount::plus;
+use crate::amount::push;
+use crate::amount::times;
+use crate::error::Error;
+use lines::is_digit;
+use lines::is_letter;
+use lines::same;
+ghost use mathlib.Core.Path.{_≡_};
+ghost use Prim.Native.Nat.{ℕ, _+_, _-_, _<_};
+ghost use mathlib.Core.Bool.{true};
+ghost use lib.ListN.{length};
+ghost use Rattle.lines.specs.Bytes.{blank, digit, letter};
+ghost use Rattle.lines.specs.Trim.{trimStart};
+ghost use Rattle.values.specs.Spans.{scaleIn, units, runs, tokens, partsOf, spanOf, limited};
+ghost use Rattle.values.specs.Answers.{spanMeans};
+ghost use Rattle.values.specs.Laws.{longest};
+ghost use Rattle.values.specs.Steps.{Stands, scaleMeans, NumberAt, PartAt, SumOf};
+
+pub enum SpanAnswer {
+    // Microseconds.
+    Accepted(u64),
+    Refused(Error),
+}
+
+// The number that a text starts with, and how many digits it has.
+struct Number {
+    amount: Amount,
+    digits: usize,
+}
+
+// What a name stands for.
+enum Scale {
+    Microseconds(u64),
+    Unknown,
+}
+
+enum NextPart {
+    // How many microseconds it adds, and where the next part starts.
+    Found { amount: Amount, length: usize },
+    Malformed,
+}
+
+enum Sum {
+    Total(Amount),
+    Malformed,
+}
+
+// ---- runs of bytes at the start of a text
+
+fn digit_value(b: u8) -> u64
+    requires { ⌜ digit b ≡ true ⌝ }
+    ensures { λ r. ⌜ r ≡ b - 0x30 ⌝ }
+{
+    (b - b'0') as u64
+}
+
+fn leading_number(text: &[u8]) -> Number
+    ensures { λ r. ⌜ NumberAt (now (text .entry)) r ⌝ }
+{
+    let mut amount = Amount::Exact(0);
+    let mut digits = 0;
+    while digits < text.len() {
+        if is_digit(text[digits]) {
+            amount = push(amount, digit_value(text[digits]));
+            digits += 1;
+        } else {
+            return Number { amount, digits };
+        }
+    }
+    Number { amount, digits }
+}
+
+// How many letters it starts with.
+fn letters(text: &[u8]) -> usize
+    ensures { λ r. ⌜ r ≡ length (longest letter (now (text .entry))) ⌝ }
+{
+    let mut n = 0;
+    while n < text.len() {
+        if is_letter(text[n]) {
+            n += 1;
+        } else {
+            return n;
+        }
+    }
+    n
+}
+
+// How many blanks it starts with.
+fn blanks(text: &[u8]) -> usize
+    ensures { λ r. ⌜ r ≡ length (longest blank (now (text .entry))) ⌝ }
+{
+    text.len() - lines::trim_start(text).len()
+}
+
+// ---- parts
+
+// The unit with a name.
+fn scale_of(name: &[u8]) -> Scale
+    ensures { λ r. ⌜ scaleMeans r ≡ scaleIn units (now (name .entry)) ⌝ }
+{
+    if same(name, b"us") {
+        return Scale::Microseconds(1);
+    }
+    if same(name, b"ms") {
+        return Scale::Microseconds(1_000);
+    }
+    if same(name, b"s") {
+        return Scale::Microseconds(1_000_000);
+    }
+    if same(name, b"min") {
+        return Scale::Microseconds(60_000_000);
+    }
+    if same(name, b"h") {
+        return Scale::Microseconds(3_600_000_000);
+    }
+    if same(name, b"d") {
+        return Scale::Microseconds(86_400_000_000);
+    }
+    if same(name, b"w") {
+        return Scale::Microseconds(604_800_000_000);
+    }
+    Scale::Unknown
+}
+
+// The part that a text starts with, and the blanks behind it. The text starts with no blank.
+fn part(text: &[u8]) -> NextPart
+    requires { ⌜ (0 < length (now text)) × (trimStart (now text) ≡ now text) ⌝ }
+    ensures { λ r. ⌜ PartAt (now (text .entry)) r ⌝ }
+{
+    let n = leading_number(text);
+    let count = n.amount;
+    let digits = n.digits;
+    if digits == 0 {
+        return NextPart::Malformed;
+    }
+    let start = digits + blanks(&text[digits..]);
+    let end = start + letters(&text[start..]);
+    let Scale::Microseconds(scale) = scale_of(&text[start..end]) else {
+        return NextPart::Malformed;
+    };
+    let amount = times(count, scale);
+    let length = end + blanks(&text[end..]);
+    NextPart::Found { amount, length }
+}
+
+// The sum of all parts of a text.
+fn sum_parts(text: &[u8]) -> Sum
+    requires { ⌜ trimStart (now text) ≡ now text ⌝ }
+    ensures { λ r. ⌜ SumOf (partsOf (tokens (runs (now (text .entry))))) r ⌝ }
+{
+    let mut total = Amount::Exact(0);
+    let mut offset = 0;
+    while offset < text.len() {
+        match part(&text[offset..]) {
+            NextPart::Found { amount, length } => {
+                total = plus(total, amount);
+                offset += length;
+            }
+            NextPart::Malformed => return Sum::Malformed,
+        }
+    }
+    Sum::Total(total)
+}
+
+// ---- spans
+
+// The answer for the sum of a text that has the form: 32 where it is too large.
+fn judged(total: Amount) -> SpanAnswer
+    ensures { λ r. ⌜ ((v : ℕ) → Stands total v → spanMeans r ≡ limited v) ⌝ }
+{
+    match total {
+        Amount::Exact(n) => SpanAnswer::Accepted(n),
+        Amount::TooLarge => SpanAnswer::Refused(Error::SpanTooLarge),
+    }
+}
+
+// How many microseconds a text states. Blanks at its ends do not count. 31 where it has not the form, however
+// large its numbers are, and 32 where the sum is too large.
+pub fn span(text: &[u8]) -> SpanAnswer
+    ensures { λ r. ⌜ spanMeans r ≡ spanOf (now (text .entry)) ⌝ }
+{
+    let trimmed = lines::trim(text);
+    if trimmed.len() == 0 {
+        return SpanAnswer::Refused(Error::SpanForm);
+    }
+    let n = leading_number(trimmed);
+    let count = n.amount;
+    if n.digits == trimmed.len() {
+        return judged(times(count, 1_000_000));
+    }
+    match sum_parts(trimmed) {
+        Sum::Total(total) => judged(total),
+        Sum::Malformed => SpanAnswer::Refused(Error::SpanForm),
+    }
+}
