@@ -1,14 +1,18 @@
 #!/usr/bin/env python3
-"""Writes what the programs `logical`, `line_cases` and `check_cases` are to print.
+"""Writes what the programs are to print: those on lines from here, those on values from expected_values.py.
 
 usage: expected.py [--check]      (--check: only compare with the files that stand)
 
 This follows the rules of document 01 and, for single calls, the joiner's interface in
-docs/DECISIONS.md. It is no translation of the Rattle code, and Python's own strict decoder judges UTF-8. The hand-made results at the end are asserted first.
+docs/DECISIONS.md. It is no translation of the Rattle code, and Python's own strict decoder judges UTF-8.
+The hand-made results at the end are asserted first.
 """
 import os
 import re
 import sys
+
+sys.dont_write_bytecode = True  # leaves no __pycache__ in the repository
+import expected_values
 
 ROOT = os.path.dirname(os.path.dirname(os.path.abspath(__file__)))
 
@@ -351,6 +355,7 @@ def main():
         'logical/stdout': listing(EXAMPLE, 4096),
         'line_cases/stdout': told(FILES, listed, HAND_FILES) + told(CALLS, one_call, HAND_CALLS),
         'check_cases/stdout': told(CHECKS, listed, HAND_FILES) + told(TEXTS, started, HAND_TEXTS),
+        **expected_values.outputs(),
     }
     assert outputs['logical/stdout'] == HAND_EXAMPLE
     assert not HAND_FILES and not HAND_TEXTS and not HAND_CALLS

@@ -2,6 +2,7 @@
 use crate::list;
 use crate::print;
 use crate::print_number;
+use crate::texts::text_in;
 
 // A whole file. Lines of more than 200 bytes are cut.
 pub fn case(name: &[u8], file: &[u8]) {
@@ -22,16 +23,6 @@ pub fn text_case(name: &[u8], file: &[u8]) {
 // A file of a head, one byte up to the index `end`, and a tail.
 pub fn long_case(name: &[u8], head: &[u8], byte: u8, end: usize, tail: &[u8]) {
     let mut file = [byte; 65536];
-    case_in(name, &mut file, head, end, tail);
-}
-
-fn case_in(name: &[u8], file: &mut [u8], head: &[u8], end: usize, tail: &[u8]) {
-    lines::copy_into(head, file, 0);
-    lines::copy_into(tail, file, end);
-    if end <= file.len() {
-        if tail.len() <= file.len() - end {
-            let size = end + tail.len();
-            case(name, &file[0..size]);
-        }
-    }
+    let text = text_in(&mut file, head, end, tail);
+    case(name, text);
 }

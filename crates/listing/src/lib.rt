@@ -1,5 +1,6 @@
 // Prints what the check of a file and its reading line by line give.
 mod cases;
+mod texts;
 
 pub use cases::case;
 pub use cases::long_case;
@@ -9,6 +10,8 @@ use lines::Check;
 use lines::Cursor;
 use lines::Error;
 use lines::Next;
+pub use texts::print_run;
+pub use texts::run_in;
 
 pub fn print(text: &[u8]) {
     io::write_all(STDOUT_FILENO, text);
@@ -18,12 +21,17 @@ pub fn print_number(n: usize) {
     io::print_decimal(STDOUT_FILENO, n as u64);
 }
 
-pub fn print_refusal(e: Error) {
+// The line `refused N at P`.
+pub fn print_refused(number: usize, place: usize) {
     print(b"refused ");
-    print_number(e.number());
+    print_number(number);
     print(b" at ");
-    print_number(e.place());
+    print_number(place);
     print(b"\n");
+}
+
+pub fn print_refusal(e: Error) {
+    print_refused(e.number(), e.place());
 }
 
 // The first bytes of a buffer, as many as asked where it has them.
