@@ -30,6 +30,17 @@ struct Number {
     digits: usize,
 }
 
+// In microseconds.
+const SECOND: u64 = 1_000_000;
+
+const MINUTE: u64 = 60 * SECOND;
+
+const HOUR: u64 = 60 * MINUTE;
+
+const DAY: u64 = 24 * HOUR;
+
+const WEEK: u64 = 7 * DAY;
+
 // What a name stands for.
 enum Scale {
     Microseconds(u64),
@@ -107,19 +118,19 @@ fn scale_of(name: &[u8]) -> Scale
         return Scale::Microseconds(1_000);
     }
     if same(name, b"s") {
-        return Scale::Microseconds(1_000_000);
+        return Scale::Microseconds(SECOND);
     }
     if same(name, b"min") {
-        return Scale::Microseconds(60_000_000);
+        return Scale::Microseconds(MINUTE);
     }
     if same(name, b"h") {
-        return Scale::Microseconds(3_600_000_000);
+        return Scale::Microseconds(HOUR);
     }
     if same(name, b"d") {
-        return Scale::Microseconds(86_400_000_000);
+        return Scale::Microseconds(DAY);
     }
     if same(name, b"w") {
-        return Scale::Microseconds(604_800_000_000);
+        return Scale::Microseconds(WEEK);
     }
     Scale::Unknown
 }
@@ -188,7 +199,7 @@ pub fn span(text: &[u8]) -> SpanAnswer
     let n = leading_number(trimmed);
     let count = n.amount;
     if n.digits == trimmed.len() {
-        return judged(times(count, 1_000_000));
+        return judged(times(count, SECOND));
     }
     match sum_parts(trimmed) {
         Sum::Total(total) => judged(total),
