@@ -53,6 +53,15 @@ pub trimEnd-nil : trimEnd [] ≡ []
 unfolding trimEnd
 trimEnd-nil = refl
 
+-- blanks alone go; otherwise the first byte stays
+pub trimEnd-all : (b : ℕ) (bs : Bytes) → all blank (b ∷ bs) ≡ true → trimEnd (b ∷ bs) ≡ []
+unfolding trimEnd
+trimEnd-all b bs h = rw h
+
+pub trimEnd-some : (b : ℕ) (bs : Bytes) → all blank (b ∷ bs) ≡ false → trimEnd (b ∷ bs) ≡ b ∷ trimEnd bs
+unfolding trimEnd
+trimEnd-some b bs h = rw h
+
 pub trimEnd-cons : (b : ℕ) (bs : Bytes) → trimEnd (b ∷ bs) ≡ keep b (trimEnd bs)
 unfolding trimEnd all keep
 trimEnd-cons b [] = by-cases (blank b) (λ e. rw e) (λ e. rw e)
@@ -148,6 +157,10 @@ trimStart-trimEnd (b ∷ bs) =
     by-cases (blank b)
     (λ e. rw (trimStart-blank b bs e) (trimStart-trimEnd bs))
     (λ e. rw (trimStart-nonblank b bs e, trimEnd-cons b bs, keep-nonblank b (trimEnd bs) e) (trimStart-nonblank b (trimEnd bs) e))
+
+pub trimmed-both : (l : Bytes) → trimmed l ≡ trimEnd (trimStart l)
+unfolding trimmed
+trimmed-both l = refl
 
 -- no blank is left at the start
 pub trimmed-start : (l : Bytes) → trimStart (trimmed l) ≡ trimmed l
