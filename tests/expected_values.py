@@ -1,4 +1,4 @@
-"""What the programs `boolean_cases`, `span_cases` and `span_bytes` are to print.
+"""What the programs `boolean_cases` and `span_cases` are to print.
 
 This follows the part "Booleans and spans" of document 01 with regular expressions over bytes and Python's
 whole numbers; it is no translation of the Rattle code. Beside each case stands its answer as it was worked
@@ -27,7 +27,7 @@ def boolean(text):
 
 
 def number(digits):
-    """The number, or 10 ** 30 for any that is longer: both are too large in every unit."""
+    """The number; one of more than 30 digits counts as 10 ** 30, since either is too large in every unit."""
     digits = digits.lstrip(b'0')
     return int(digits or b'0') if len(digits) <= 30 else 10 ** 30
 
@@ -103,6 +103,7 @@ BOOLEANS = [
            b'Off', b'oFf', b'ofF', b'OFF'),
     # bytes around a word
     *sum(map(around, WORDS), []),
+    *shown(BAD_BOOLEAN, *[b' ' + word + b' ' for word in WORDS]),
     # starts and ends of words
     *shown(BAD_BOOLEAN, b'', b'y', b'ye', b't', b'tr', b'tru', b'o', b'n', b'f', b'fa', b'fal', b'fals', b'of',
            b'es', b's', b'rue', b'e', b'alse', b'ff'),
@@ -247,16 +248,11 @@ FORMS = [
     *named(BAD_FORM, b'a no-break space between parts', b'1s\xc2\xa02s'),
 ]
 
-SPANS = VALUES + LIMITS + FORMS
-
-
-# ---- the cases in the order of crates/span_bytes
-
 # No digits, letters or blanks.
 OTHER_BYTES = b'\x00\x08\n\x0b\x0c\r\x1f\x7f' + b'!"+,-./:;@[_`{' + b'\x80\xa0\xb1\xb5\xc2\xf3\xff'
 BLANK_ANSWERS = [BAD_FORM, 1000000, 1000000, BAD_FORM, 1000000, 1000000, BAD_FORM, 3000000, 1000000]
 
-SPAN_BYTES = [
+BYTES = [
     # one byte in each place
     *everywhere(ord(' '), *BLANK_ANSWERS),
     *everywhere(ord('\t'), *BLANK_ANSWERS),
@@ -288,6 +284,8 @@ SPAN_BYTES = [
     *million(BAD_FORM, b'7', b's', b''),
 ]
 
+SPANS = VALUES + LIMITS + FORMS + BYTES
+
 
 def told(kind, cases, read):
     """A line for each case; the answer is held to the one made by hand."""
@@ -304,5 +302,4 @@ def outputs():
     return {
         'boolean_cases/stdout': told(b'boolean', BOOLEANS, boolean),
         'span_cases/stdout': told(b'span', SPANS, span),
-        'span_bytes/stdout': told(b'span', SPAN_BYTES, span),
     }

@@ -8,6 +8,7 @@ fn main() {
     words::upper_case_true();
     words::upper_case_false();
     words::with_more_bytes();
+    words::between_blanks();
     words::pieces();
     words::longer();
     words::changed();

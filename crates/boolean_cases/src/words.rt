@@ -69,6 +69,17 @@ fn around(word: &[u8]) {
     byte_case(word, 0xFF, none);
 }
 
+pub fn between_blanks() {
+    case(b" 1 ");
+    case(b" yes ");
+    case(b" true ");
+    case(b" on ");
+    case(b" 0 ");
+    case(b" no ");
+    case(b" false ");
+    case(b" off ");
+}
+
 // Starts and ends of words.
 pub fn pieces() {
     case(b"");
@@ -107,7 +118,7 @@ pub fn longer() {
     case(b"offf");
 }
 
-// The first or the last byte is the one next to it.
+// The first or the last byte replaced by a neighbour in ASCII.
 pub fn changed() {
     case(b"/");
     case(b"2");

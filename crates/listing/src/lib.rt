@@ -1,4 +1,4 @@
-// Prints what the check of a file and its reading line by line give.
+// Prints answers, what the check of a file and its reading line by line give, and the texts of test cases.
 mod cases;
 mod texts;
 
@@ -17,8 +17,12 @@ pub fn print(text: &[u8]) {
     io::write_all(STDOUT_FILENO, text);
 }
 
+pub fn print_u64(n: u64) {
+    io::print_decimal(STDOUT_FILENO, n);
+}
+
 pub fn print_number(n: usize) {
-    io::print_decimal(STDOUT_FILENO, n as u64);
+    print_u64(n as u64);
 }
 
 // The line `refused N at P`.

@@ -1,6 +1,8 @@
 // Cases of time spans: each prints its text and the answer. tests/expected_values.py has the same list.
 mod forms;
 mod limits;
+mod long_runs;
+mod places;
 mod show;
 mod spans;
 
@@ -23,4 +25,11 @@ fn main() {
     forms::notations();
     forms::large_numbers();
     forms::characters();
+    places::blanks_and_digits();
+    places::letters();
+    places::control_bytes();
+    places::signs();
+    places::high_bytes();
+    long_runs::digits();
+    long_runs::blanks_and_letters();
 }

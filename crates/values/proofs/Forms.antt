@@ -9,10 +9,10 @@ use lib.ListN.{length}
 use lib.Seq.{drop-append-seam}
 use Rattle.lines.specs.Bytes.{Bytes, blank, digit, all}
 use Rattle.lines.proofs.Bools.{by-cases, and-left, is-false, impossible, clash}
-use Rattle.values.specs.Spans.{runs, tokens, partsOf, spanParts}
-use Rattle.values.specs.Laws.{longest}
+use Rattle.values.specs.Spans.{runs, tokens, partsOf, spanParts, longest}
 use Rattle.values.proofs.Longest.{longest-append}
-use Rattle.values.proofs.Classes.{Class, digit-class, digit-blank}
+use Rattle.lines.proofs.ByteClasses.{digit-blank}
+use Rattle.values.proofs.Classes.{Class, digit-class}
 use Rattle.values.proofs.Runs.{tokens-run}
 use Rattle.values.proofs.Verdict.{parts-units}
 use Rattle.values.proofs.Blanks.{tokens-before}

@@ -1,13 +1,13 @@
 -- The longest run of bytes that pass, at the start of a text.
-use mathlib.Core.Path.{_≡_, refl, ap}
+use mathlib.Core.Path.{_≡_, refl, sym, ap, _∙_}
 use Prim.Native.Nat.{ℕ, suc, _≤_}
 use native.Mathlib.Omega.{arith}
 use mathlib.Core.Bool.{Bool, true}
-use mathlib.Core.List.{[], _∷_, _++_}
+use mathlib.Core.List.{[], _∷_, _++_, append-nil}
 use lib.ListN.{length, take}
 use Rattle.lines.specs.Bytes.{Bytes, all}
 use Rattle.lines.proofs.Bools.{by-cases, and-left, and-right}
-use Rattle.values.specs.Laws.{longest}
+use Rattle.values.specs.Spans.{longest}
 
 pub longest-all : (p : ℕ → Bool) (t : Bytes) → all p (longest p t) ≡ true
 unfolding longest all
@@ -36,19 +36,17 @@ longest-append p (b ∷ a) r h =
     rw (and-left (p b) (all p a) h) (ap (λ (l : Bytes). b ∷ l) (longest-append p a r (and-right (p b) (all p a) h)))
 
 -- where it is as long as the text, it is the text
-pub whole : (p : ℕ → Bool) (t : Bytes) → length (longest p t) ≡ length t → longest p t ≡ t
+pub longest-whole : (p : ℕ → Bool) (t : Bytes) → length (longest p t) ≡ length t → longest p t ≡ t
 unfolding longest
-whole p [] h = refl
-whole p (b ∷ bs) h =
+longest-whole p [] h = refl
+longest-whole p (b ∷ bs) h =
     by-cases (p b)
     (λ e.
     let k : suc (length (longest p bs)) ≡ suc (length bs) = rw e at h in
-    rw e (ap (λ (l : Bytes). b ∷ l) (whole p bs (omega arith))))
+    rw e (ap (λ (l : Bytes). b ∷ l) (longest-whole p bs (omega arith))))
     (λ e. let k : 0 ≡ suc (length bs) = rw e at h in absurd (omega arith))
 
 -- and it is where every byte passes
-pub all-whole : (p : ℕ → Bool) (t : Bytes) → all p t ≡ true → longest p t ≡ t
-unfolding longest all
-all-whole p [] h = refl
-all-whole p (b ∷ bs) h =
-    rw (and-left (p b) (all p bs) h) (ap (λ (l : Bytes). b ∷ l) (all-whole p bs (and-right (p b) (all p bs) h)))
+pub longest-of-all : (p : ℕ → Bool) (t : Bytes) → all p t ≡ true → longest p t ≡ t
+unfolding longest
+longest-of-all p t h = ap (longest p) (sym (append-nil t)) ∙ longest-append p t [] h ∙ append-nil t

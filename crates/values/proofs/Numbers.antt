@@ -7,12 +7,11 @@ use mathlib.Core.Bool.{true}
 use mathlib.Core.List.{[], _∷_, _++_}
 use lib.ListN.{length, take, getD, length-append}
 use Rattle.lines.specs.Bytes.{Bytes, digit, all}
-use Rattle.values.specs.Spans.{numeral, tens, decimal}
-use Rattle.values.specs.Laws.{longest}
+use Rattle.values.specs.Spans.{numeral, tens, decimal, longest}
 use Rattle.values.specs.Steps.{Stands, NumberAt}
 use Rattle.values.specs.declared.amount.Amount.{Amount}
 use Rattle.values.specs.declared.amount.Amount.the-variants.{Exact}
-use Rattle.values.proofs.Scan.{Passed, start, more, take-more, length-found}
+use Rattle.values.proofs.Scan.{Passed, passed-start, passed-more, take-more, length-found}
 
 -- digits that are there
 pub some-numeral : (n : Bytes) → 0 < length n → all digit n ≡ true → numeral n ≡ true
@@ -44,13 +43,13 @@ pub record Counted (t : Bytes) (a : Amount) (i : ℕ) : Type 0 where
 
 pub counted-start : (t : Bytes) → Counted t (Exact 0) 0
 unfolding decimal
-counted-start t = record { passed = start digit t; stands = refl }
+counted-start t = record { passed = passed-start digit t; stands = refl }
 
 pub counted-more : (t : Bytes) (a r : Amount) (i d : ℕ) → Counted t a i → i < length t → digit (getD t i 0) ≡ true
     → d ≡ getD t i 0 - 0x30 → ((v : ℕ) → Stands a v → Stands r (v * 10 + d)) → Counted t r (i + 1)
 counted-more t a r i d c h e k pushed =
     record {
-      passed = more digit t i (c .passed) h e;
+      passed = passed-more digit t i (c .passed) h e;
       stands = subst (Stands r)
           (ap (λ (n : ℕ). decimal (take i t) * 10 + n) k
           ∙ sym (ap decimal (take-more t i h) ∙ decimal-snoc (take i t) (getD t i 0)))

@@ -12,14 +12,14 @@ use Rattle.lines.specs.Bytes.{Bytes, blank, digit, letter, all}
 use Rattle.lines.specs.Trim.{trimStart}
 use Rattle.lines.proofs.Bools.{by-cases, is-false, impossible}
 use Rattle.lines.proofs.Trimming.{trimStart-idem}
-use Rattle.values.specs.Spans.{numeral, decimal, units, scaleIn, runs, tokens, partOf}
-use Rattle.values.specs.Laws.{longest}
+use Rattle.values.specs.Spans.{numeral, decimal, units, scaleIn, runs, tokens, partOf, longest}
 use Rattle.values.specs.Steps.{Stands, firstPart, PartFound}
 use Rattle.values.specs.declared.amount.Amount.{Amount}
 use Rattle.values.proofs.Numbers.{some-numeral}
 use Rattle.values.proofs.Longest.{longest-all, longest-inside, longest-take, longest-more}
-use Rattle.values.proofs.Classes.{digit-class, letter-class, digit-blank, letter-blank}
-use Rattle.values.proofs.Runs.{tokens-run, tokens-longest, tokens-trimStart, trimStart-drop, starts, first-token}
+use Rattle.lines.proofs.ByteClasses.{digit-blank, letter-blank}
+use Rattle.values.proofs.Classes.{digit-class, letter-class}
+use Rattle.values.proofs.Runs.{tokens-run, tokens-longest, tokens-trimStart, trimStart-drop, first-nonblank, first-token}
 use Rattle.values.proofs.Units.{scale-letters, some-letter}
 
 -- ---- where the form is wrong
@@ -45,7 +45,7 @@ pub no-number : (t : Bytes) → 0 < length t → trimStart t ≡ t → length (l
 unfolding numeral
 no-number [] l h z = absurd (omega arith)
 no-number (b ∷ bs) l h z =
-    let f = first-token b bs (starts b bs h) in
+    let f = first-token b bs (first-nonblank b bs h) in
     let e : digit b ≡ false =
     is-false (digit b) (λ y. let k : length (longest digit (b ∷ bs)) ≡ length (b ∷ longest digit bs) = ap length (longest-more digit b bs y) in absurd (omega arith))
     in
@@ -60,19 +60,19 @@ no-letter b bs h = go (scaleIn units (b ∷ bs)) refl
     go (some s) e = impossible (sym (none-all letter b bs h) ∙ scale-letters (b ∷ bs) s e)
 
 -- a number alone
-alone : (n : Bytes) → firstPart (n ∷ tokens (runs [])) ≡ none
+number-alone : (n : Bytes) → firstPart (n ∷ tokens (runs [])) ≡ none
 unfolding tokens runs
-alone n = refl
+number-alone n = refl
 
 -- no unit behind a number
 no-unit : (n r : Bytes) → trimStart r ≡ r → scaleIn units (longest letter r) ≡ none → firstPart (n ∷ tokens (runs r)) ≡ none
-no-unit n [] h e = alone n
+no-unit n [] h e = number-alone n
 no-unit n (b ∷ bs) h e =
     by-cases (letter b)
     (λ y. ap (λ (ts : List Bytes). firstPart (n ∷ ts)) (tokens-longest letter letter-class letter-blank b bs y)
     ∙ wrong-unit n (longest letter (b ∷ bs)) (tokens (runs (drop (length (longest letter (b ∷ bs))) (b ∷ bs)))) e)
     (λ y.
-    let f = first-token b bs (starts b bs h) in
+    let f = first-token b bs (first-nonblank b bs h) in
     ap (λ (ts : List Bytes). firstPart (n ∷ ts)) (f .view)
     ∙ wrong-unit n (b ∷ f .behind) (f .others) (no-letter b (f .behind) y))
 
@@ -94,21 +94,21 @@ unit-at r k e =
 -- ---- by the numbers of digits, blanks, letters and blanks
 
 -- what follows a run and the blanks behind it
-pub past : (i g : ℕ) (t : Bytes) → g ≡ length (longest blank (drop i t)) → trimStart (drop i t) ≡ drop (i + g) t
-past i g t e = trimStart-drop (drop i t) ∙ rw (sym e) (drop-drop g i t)
+trimStart-past : (i g : ℕ) (t : Bytes) → g ≡ length (longest blank (drop i t)) → trimStart (drop i t) ≡ drop (i + g) t
+trimStart-past i g t e = trimStart-drop (drop i t) ∙ rw (sym e) (drop-drop g i t)
 
 -- the number, and the tokens from the unit on
 number-at : (t : Bytes) (d g : ℕ) → d ≡ length (longest digit t) → 0 < d → g ≡ length (longest blank (drop d t))
     → tokens (runs t) ≡ longest digit t ∷ tokens (runs (drop (d + g) t))
 number-at t d g ed h eg =
     tokens-run digit digit-class digit-blank t (omega arith)
-    ∙ rw (sym ed) (ap (λ (ws : List Bytes). longest digit t ∷ ws) (tokens-trimStart (drop d t) ∙ ap (λ (r : Bytes). tokens (runs r)) (past d g t eg)))
+    ∙ rw (sym ed) (ap (λ (ws : List Bytes). longest digit t ∷ ws) (tokens-trimStart (drop d t) ∙ ap (λ (r : Bytes). tokens (runs r)) (trimStart-past d g t eg)))
 
 pub part-wrong : (t : Bytes) (d g : ℕ) → d ≡ length (longest digit t) → 0 < d → g ≡ length (longest blank (drop d t))
     → scaleIn units (longest letter (drop (d + g) t)) ≡ none → firstPart (tokens (runs t)) ≡ none
 part-wrong t d g ed h eg e =
     ap firstPart (number-at t d g ed h eg)
-    ∙ no-unit (longest digit t) (drop (d + g) t) (ap trimStart (sym (past d g t eg)) ∙ trimStart-idem (drop d t) ∙ past d g t eg) e
+    ∙ no-unit (longest digit t) (drop (d + g) t) (ap trimStart (sym (trimStart-past d g t eg)) ∙ trimStart-idem (drop d t) ∙ trimStart-past d g t eg) e
 
 -- the lengths of the four runs, one behind the other
 pub record Places (t : Bytes) (d g u w : ℕ) : Type 0 where
@@ -117,8 +117,8 @@ pub record Places (t : Bytes) (d g u w : ℕ) : Type 0 where
   pub name : u ≡ length (longest letter (drop (d + g) t))
   pub behind : w ≡ length (longest blank (drop (d + g + u) t))
 
-pub within : (p : ℕ → Bool) (i n : ℕ) (t : Bytes) → n ≡ length (longest p (drop i t)) → i ≤ length t → i + n ≤ length t
-within p i n t e h = omega (arith, longest-inside p (drop i t), length-drop i t)
+pub run-inside : (p : ℕ → Bool) (i n : ℕ) (t : Bytes) → n ≡ length (longest p (drop i t)) → i ≤ length t → i + n ≤ length t
+run-inside p i n t e h = omega (arith, longest-inside p (drop i t), length-drop i t)
 
 pub place-start : (t : Bytes) (d : ℕ) → d ≡ length (longest digit t) → d ≤ length t
 place-start t d e = omega (arith, longest-inside digit t)
@@ -128,10 +128,10 @@ pub part-right : (t : Bytes) (a : Amount) (d g u w k : ℕ) → Places t d g u w
 part-right t a d g u w k p h e s =
     let r = drop (d + g) t in
     let q : trimStart (drop (length (longest letter r)) r) ≡ drop (d + g + u + w) t =
-    rw (sym (p .name)) (ap trimStart (drop-drop u (d + g) t) ∙ past (d + g + u) w t (p .behind))
+    rw (sym (p .name)) (ap trimStart (drop-drop u (d + g) t) ∙ trimStart-past (d + g + u) w t (p .behind))
     in
-    let j : d + g ≤ length t = within blank d g t (p .gap) (place-start t d (p .digits)) in
-    let l : d + g + u ≤ length t = within letter (d + g) u t (p .name) j in
+    let j : d + g ≤ length t = run-inside blank d g t (p .gap) (place-start t d (p .digits)) in
+    let l : d + g + u ≤ length t = run-inside letter (d + g) u t (p .name) j in
     let view : tokens (runs t) ≡ longest digit t ∷ longest letter r ∷ tokens (runs (drop (d + g + u + w) t)) =
     number-at t d g (p .digits) h (p .gap)
     ∙ ap (λ (ts : List Bytes). longest digit t ∷ ts) (unit-at r k e ∙ ap (λ (x : Bytes). longest letter r ∷ tokens (runs x)) q)
@@ -143,7 +143,7 @@ part-right t a d g u w k p h e s =
       rest = ap (drop 2) view;
       adds = s;
       some-bytes = omega arith;
-      inside = within blank (d + g + u) w t (p .behind) l;
+      inside = run-inside blank (d + g + u) w t (p .behind) l;
       no-blank = ap trimStart (sym q) ∙ trimStart-idem (drop (length (longest letter r)) r) ∙ q;
     }
 

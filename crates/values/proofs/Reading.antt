@@ -11,7 +11,7 @@ use Rattle.lines.specs.Bytes.{Bytes, blank, digit, all}
 use Rattle.lines.specs.Trim.{trimEnd, trimmed}
 use Rattle.lines.specs.Laws.{All}
 use Rattle.lines.proofs.Bools.{by-cases, clash, impossible}
-use Rattle.lines.proofs.Trimming.{trimStart-nil, trimEnd-nil, trimStart-blanks}
+use Rattle.lines.proofs.Trimming.{trimStart-nil, trimEnd-nil, trimStart-blanks, trimmed-both}
 use Rattle.values.specs.Spans.{second, numeral, decimal, units, scaleIn, runs, tokens, Part, counted, partOf, withPart, partsOf, spanParts}
 use Rattle.values.specs.Laws.{Spelling, SoundPart, allSpelt, allMeant, meant, Seconds, Spells, as-seconds, as-parts}
 use Rattle.values.proofs.Numbers.{numeral-digits}
@@ -66,9 +66,8 @@ reads (token n gap x g (token u behind {ws} {t} y b l)) =
 -- a text that is not all blanks
 some-part : (a : Bytes) (ps : List Spelling) (b : ℕ) (bs : Bytes) → all blank a ≡ true → trimmed (a ++ allSpelt ps) ≡ b ∷ bs
     → 0 < length ps
-unfolding trimmed
 some-part a [] b bs h e =
-    let z : trimmed (a ++ []) ≡ [] = ap trimEnd (trimStart-blanks a [] h ∙ trimStart-nil) ∙ trimEnd-nil in
+    let z : trimmed (a ++ []) ≡ [] = trimmed-both (a ++ []) ∙ ap trimEnd (trimStart-blanks a [] h ∙ trimStart-nil) ∙ trimEnd-nil in
     clash cc
 some-part a (p ∷ ps) b bs h e = omega arith
 

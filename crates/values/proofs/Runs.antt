@@ -10,8 +10,7 @@ use Rattle.lines.specs.Bytes.{Bytes, blank, all}
 use Rattle.lines.specs.Trim.{trimStart}
 use Rattle.lines.proofs.Bools.{by-cases, is-false}
 use Rattle.lines.proofs.Trimming.{trimStart-blank, trimStart-nonblank, trimStart-nil, length-trimStart}
-use Rattle.values.specs.Spans.{alike, runs, tokens}
-use Rattle.values.specs.Laws.{longest}
+use Rattle.values.specs.Spans.{alike, runs, tokens, longest}
 use Rattle.values.proofs.Longest.{longest-all, longest-inside, longest-more}
 use Rattle.values.proofs.Classes.{Class, alike-same, blank-class}
 
@@ -64,9 +63,12 @@ tokens-run p k n (b ∷ bs) h =
 
 -- blanks at the start go
 pub trimStart-drop : (t : Bytes) → trimStart t ≡ drop (length (longest blank t)) t
-unfolding trimStart longest
-trimStart-drop [] = refl
-trimStart-drop (b ∷ bs) = by-cases (blank b) (λ e. rw e (trimStart-drop bs)) (λ e. rw e)
+unfolding longest
+trimStart-drop [] = trimStart-nil
+trimStart-drop (b ∷ bs) =
+    by-cases (blank b)
+    (λ e. trimStart-blank b bs e ∙ rw e (trimStart-drop bs))
+    (λ e. trimStart-nonblank b bs e ∙ rw e)
 
 pub tokens-trimStart : (t : Bytes) → tokens (runs t) ≡ tokens (runs (trimStart t))
 tokens-trimStart [] = rw trimStart-nil
@@ -84,13 +86,12 @@ pub record First (b : ℕ) (ws : List Bytes) : Type 0 where
   pub view : ws ≡ (b ∷ behind) ∷ others
 
 first-run : (b : ℕ) (bs : Bytes) → First b (runs (b ∷ bs))
-unfolding runs
-first-run b [] = record { behind = []; others = []; view = refl }
-first-run b (c ∷ cs) =
-    let f = first-run c cs in
-    by-cases (alike b c)
-    (λ e. record { behind = c ∷ f .behind; others = f .others; view = rw (e, f .view) })
-    (λ e. record { behind = []; others = runs (c ∷ cs); view = rw e })
+first-run b bs =
+    record {
+      behind = longest (alike b) bs;
+      others = runs (drop (length (longest (alike b) bs)) bs);
+      view = runs-alike b bs;
+    }
 
 pub first-token : (b : ℕ) (bs : Bytes) → blank b ≡ false → First b (tokens (runs (b ∷ bs)))
 first-token b bs h =
@@ -107,9 +108,9 @@ trimmed-away t =
     let e : length (trimStart t) ≡ length t - length (longest blank t) = ap length (trimStart-drop t) ∙ length-drop (length (longest blank t)) t in
     omega (arith, e, longest-inside blank t)
 
--- a text that starts with no blank
-pub starts : (b : ℕ) (bs : Bytes) → trimStart (b ∷ bs) ≡ b ∷ bs → blank b ≡ false
-starts b bs h =
+-- the first byte of a text that starts with no blank
+pub first-nonblank : (b : ℕ) (bs : Bytes) → trimStart (b ∷ bs) ≡ b ∷ bs → blank b ≡ false
+first-nonblank b bs h =
     is-false (blank b)
     (λ e.
     let l : length (trimStart bs) ≡ length (b ∷ bs) = ap length (sym (trimStart-blank b bs e) ∙ h) in
@@ -118,4 +119,4 @@ starts b bs h =
 -- it has a token, if it has a byte
 pub some-token : (t : Bytes) → 0 < length t → trimStart t ≡ t → 0 < length (tokens (runs t))
 some-token [] l h = absurd (omega arith)
-some-token (b ∷ bs) l h = let f = first-token b bs (starts b bs h) in rw (f .view) (omega arith)
+some-token (b ∷ bs) l h = let f = first-token b bs (first-nonblank b bs h) in rw (f .view) (omega arith)

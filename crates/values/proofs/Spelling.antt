@@ -11,13 +11,13 @@ use Rattle.lines.specs.Bytes.{Bytes, blank, digit, letter, all}
 use Rattle.lines.specs.Trim.{trimEnd, trimmed}
 use Rattle.lines.specs.Laws.{All}
 use Rattle.lines.proofs.Bools.{and-left, all-imp}
-use Rattle.lines.proofs.Trimming.{trimStart-nonblank, trimEnd-nonblank, trimStart-blanks, trimEnd-blanks}
-use Rattle.values.specs.Spans.{runs, tokens, Part, partOf, partsOf, spanParts}
-use Rattle.values.specs.Laws.{longest}
+use Rattle.lines.proofs.Trimming.{trimStart-nonblank, trimEnd-nonblank, trimStart-blanks, trimEnd-blanks, trimmed-both}
+use Rattle.values.specs.Spans.{runs, tokens, Part, partOf, partsOf, spanParts, longest}
 use Rattle.values.specs.Laws.{Spelling, SoundPart, spelt, allSpelt, allMeant, Spells, as-seconds, as-parts}
 use Rattle.values.proofs.Numbers.{some-numeral}
 use Rattle.values.proofs.Units.{scale-letters, some-letter}
-use Rattle.values.proofs.Classes.{digit-class, letter-class, digit-blank, letter-blank, digit-letter, letter-digit}
+use Rattle.lines.proofs.ByteClasses.{digit-blank, letter-blank, digit-letter, letter-digit}
+use Rattle.values.proofs.Classes.{digit-class, letter-class}
 use Rattle.values.proofs.Verdict.{parts-digits}
 use Rattle.values.proofs.Blanks.{tokens-before, tokens-trimmed}
 use Rattle.values.proofs.Forms.{longest-other, tokens-run-before, span-tokens}
@@ -69,11 +69,12 @@ read-parts a (p ∷ ps) b l h =
 
 trimmed-digits : (a d c : Bytes) → all blank a ≡ true → 0 < length d → all digit d ≡ true → all blank c ≡ true
     → trimmed (a ++ d ++ c) ≡ d
-unfolding trimmed all
+unfolding all
 trimmed-digits a [] c x l h y = absurd (omega arith)
 trimmed-digits a (b ∷ d) c x l h y =
     rw append-assoc
-    (ap trimEnd (trimStart-blanks a (b ∷ d ++ c) x ∙ trimStart-nonblank b (d ++ c) (digit-blank b (and-left (digit b) (all digit d) h)))
+    (trimmed-both (a ++ (b ∷ d ++ c))
+    ∙ ap trimEnd (trimStart-blanks a (b ∷ d ++ c) x ∙ trimStart-nonblank b (d ++ c) (digit-blank b (and-left (digit b) (all digit d) h)))
     ∙ trimEnd-blanks c (b ∷ d) y
     ∙ trimEnd-nonblank (b ∷ d) (all-imp digit (λ b. not (blank b)) (λ b e. ap not (digit-blank b e)) (b ∷ d) h))
 

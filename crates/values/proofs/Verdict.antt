@@ -12,11 +12,10 @@ use Rattle.lines.specs.Trim.{trimStart, trimmed}
 use Rattle.lines.specs.Answers.{refused}
 use Rattle.lines.proofs.Bools.{is-false, clash}
 use Rattle.lines.proofs.Trimming.{trimmed-start}
-use Rattle.values.specs.Spans.{decimal, second, runs, tokens, Part, partsOf, oneOrMore, spanParts, microseconds, sized, spanOf, limited}
-use Rattle.values.specs.Laws.{longest}
+use Rattle.values.specs.Spans.{decimal, second, runs, tokens, Part, partsOf, oneOrMore, spanParts, microseconds, sized, spanOf, limited, longest}
 use Rattle.values.specs.Steps.{Totalled}
 use Rattle.values.specs.declared.amount.Amount.{Amount}
-use Rattle.values.proofs.Longest.{longest-all, whole, all-whole}
+use Rattle.values.proofs.Longest.{longest-all, longest-whole, longest-of-all}
 use Rattle.values.proofs.Runs.{some-token}
 
 -- ---- the form of a trimmed text
@@ -72,7 +71,7 @@ span-empty t s e h = spanOf-at t s e ∙ ap sized (parts-empty s h) ∙ sized-no
 pub span-seconds : (t s : Bytes) → s ≡ trimmed t → 0 < length s → length (longest digit s) ≡ length s
     → spanOf t ≡ limited (decimal (longest digit s) * second)
 span-seconds t s e l h =
-    let w : longest digit s ≡ s = whole digit s h in
+    let w : longest digit s ≡ s = longest-whole digit s h in
     spanOf-at t s e
     ∙ ap sized (parts-digits s l (ap (all digit) (sym w) ∙ longest-all digit s))
     ∙ sized-some (record { number = decimal s; scale = second } ∷ [])
@@ -83,7 +82,7 @@ span-units : (t s : Bytes) → s ≡ trimmed t → 0 < length s → (length (lon
     → spanOf t ≡ sized (partsOf (tokens (runs s)))
 span-units t s e l h =
     spanOf-at t s e
-    ∙ ap sized (parts-units s (is-false (all digit s) (λ y. h (ap length (all-whole digit s y))))
+    ∙ ap sized (parts-units s (is-false (all digit s) (λ y. h (ap length (longest-of-all digit s y))))
     (some-token s l (ap trimStart e ∙ trimmed-start t ∙ sym e)))
 
 pub span-total : (t s : Bytes) (a : Amount) → s ≡ trimmed t → 0 < length s → (length (longest digit s) ≡ length s → ⊥)

@@ -1,11 +1,12 @@
 -- A text compared with one word after the other: a step of `among` and of `scaleIn`, where a call of `same` has
 -- answered and a branch was taken on the answer.
-use mathlib.Core.Path.{_≡_, refl, sym, _∙_}
+use mathlib.Core.Path.{_≡_, sym, _∙_}
 use mathlib.Core.Bool.{Bool, true, false, _||_}
-use mathlib.Core.Option.{none, some}
-use mathlib.Core.List.{List, [], _∷_}
+use mathlib.Core.Option.{some}
+use mathlib.Core.List.{List, _∷_}
 use Rattle.lines.specs.Bytes.{Bytes, equal}
 use Rattle.values.specs.Spans.{TimeUnit, scaleIn}
+use Rattle.values.proofs.Units.{scale-cons}
 
 -- ---- among, which is a chain of `||`; `search` finds the answers and the branches
 
@@ -23,13 +24,7 @@ or-last false r e = e
 
 module _ {same : Bool} (u : TimeUnit) (us : List TimeUnit) (n : Bytes) where
   pub scale-hit : same ≡ equal n (u .name) → same ≡ true → scaleIn (u ∷ us) n ≡ some (u .scale)
-  unfolding scaleIn
-  scale-hit e taken = rw (sym e ∙ taken)
+  scale-hit e taken = scale-cons u us n ∙ rw (sym e ∙ taken)
 
   pub scale-miss : same ≡ equal n (u .name) → same ≡ false → scaleIn (u ∷ us) n ≡ scaleIn us n
-  unfolding scaleIn
-  scale-miss e left = rw (sym e ∙ left)
-
-pub scale-none : (n : Bytes) → scaleIn [] n ≡ none
-unfolding scaleIn
-scale-none n = refl
+  scale-miss e left = scale-cons u us n ∙ rw (sym e ∙ left)

@@ -1,7 +1,7 @@
 -- What is known of the definitions: statements, proved in proofs/Laws.antt.
 use mathlib.Core.Path.{_≡_}
 use Prim.Native.Nat.{ℕ, _<_}
-use mathlib.Core.Bool.{Bool, true, cond}
+use mathlib.Core.Bool.{true}
 use mathlib.Core.Option.{some}
 use mathlib.Core.List.{List, [], _∷_, _++_}
 use lib.ListN.{length, drop}
@@ -9,14 +9,9 @@ use Rattle.lines.specs.Bytes.{Bytes, blank, digit, all}
 use Rattle.lines.specs.Trim.{trimmed}
 use Rattle.lines.specs.Answers.{refused}
 use Rattle.lines.specs.Laws.{All}
-use Rattle.values.specs.Spans.{decimal, second, scaleIn, units, alike, runs, Part, spanParts, microseconds, limited, spanOf}
+use Rattle.values.specs.Spans.{decimal, second, scaleIn, units, longest, alike, runs, Part, spanParts, microseconds, limited, spanOf}
 
 -- ---- runs
-
--- the bytes at the start that pass, as many as there are
-unfoldable pub longest : (ℕ → Bool) → Bytes → Bytes
-longest p [] = []
-longest p (b ∷ bs) = cond (p b) (b ∷ longest p bs) []
 
 -- The first run of a text is its first byte with all bytes alike to it that follow at once; behind it stand
 -- the runs of the rest.

@@ -93,6 +93,11 @@ runs [] = []
 runs (b ∷ []) = (b ∷ []) ∷ []
 runs (b ∷ c ∷ bs) = cond (alike b c) (lengthen b (runs (c ∷ bs))) ((b ∷ []) ∷ runs (c ∷ bs))
 
+-- the bytes at the start that pass, as many as there are: what a longest run is (`RunsLongest`)
+unfoldable pub longest : (ℕ → Bool) → Bytes → Bytes
+longest p [] = []
+longest p (b ∷ bs) = cond (p b) (b ∷ longest p bs) []
+
 -- The tokens: the runs that are no blanks. So blanks may stand between a number and its unit and between two
 -- parts; two numbers or two names stay apart by them.
 unfoldable pub tokens : List Bytes → List Bytes

@@ -7,8 +7,7 @@ use mathlib.Core.List.{List, [], _∷_}
 use lib.ListN.{length, drop}
 use Rattle.lines.specs.Bytes.{Bytes, digit}
 use Rattle.lines.specs.Trim.{trimStart}
-use Rattle.values.specs.Spans.{decimal, Part, runs, tokens, partOf, microseconds, largestSpan}
-use Rattle.values.specs.Laws.{longest}
+use Rattle.values.specs.Spans.{decimal, Part, runs, tokens, partOf, microseconds, largestSpan, longest}
 use Rattle.values.specs.declared.amount.Amount.{Amount}
 use Rattle.values.specs.declared.amount.Amount.the-variants.{Exact, TooLarge}
 use Rattle.values.specs.declared.spans.Number.{Number}

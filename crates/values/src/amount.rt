@@ -1,8 +1,8 @@
-// Sums that do not wrap: a number of 64 bits, or the word that it is larger. Used inside the crate alone.
-ghost use Prim.Native.Nat.{ℕ, _+_, _-_, _*_, _<_};
+// Sums that do not wrap: a number of 64 bits, or the word that it is larger.
+ghost use Prim.Native.Nat.{ℕ, _+_, _*_, _<_};
 ghost use Rattle.values.specs.Steps.{Stands};
 
-pub enum Amount {
+pub(crate) enum Amount {
     Exact(u64),
     TooLarge,
 }
@@ -10,7 +10,7 @@ pub enum Amount {
 const LARGEST: u64 = 18446744073709551615;
 
 // Times ten, and a digit more.
-pub fn push(amount: Amount, digit: u64) -> Amount
+pub(crate) fn push(amount: Amount, digit: u64) -> Amount
     ensures { λ r. ⌜ ((v : ℕ) → Stands amount v → Stands r (v * 10 + digit)) ⌝ }
 {
     let Amount::Exact(n) = amount else {
@@ -24,7 +24,7 @@ pub fn push(amount: Amount, digit: u64) -> Amount
 }
 
 // Times the microseconds of a unit.
-pub fn times(amount: Amount, scale: u64) -> Amount
+pub(crate) fn times(amount: Amount, scale: u64) -> Amount
     requires { ⌜ 0 < scale ⌝ }
     ensures { λ r. ⌜ ((v : ℕ) → Stands amount v → Stands r (v * scale)) ⌝ }
 {
@@ -39,7 +39,7 @@ pub fn times(amount: Amount, scale: u64) -> Amount
 }
 
 // The sum of two.
-pub fn plus(a: Amount, b: Amount) -> Amount
+pub(crate) fn plus(a: Amount, b: Amount) -> Amount
     ensures { λ r. ⌜ ((v w : ℕ) → Stands a v → Stands b w → Stands r (v + w)) ⌝ }
 {
     let Amount::Exact(n) = a else {

@@ -8,14 +8,13 @@ use lines::is_digit;
 use lines::is_letter;
 use lines::same;
 ghost use mathlib.Core.Path.{_≡_};
-ghost use Prim.Native.Nat.{ℕ, _+_, _-_, _<_};
+ghost use Prim.Native.Nat.{ℕ, _-_, _<_};
 ghost use mathlib.Core.Bool.{true};
 ghost use lib.ListN.{length};
 ghost use Rattle.lines.specs.Bytes.{blank, digit, letter};
 ghost use Rattle.lines.specs.Trim.{trimStart};
-ghost use Rattle.values.specs.Spans.{scaleIn, units, runs, tokens, partsOf, spanOf, limited};
+ghost use Rattle.values.specs.Spans.{scaleIn, units, runs, tokens, partsOf, spanOf, limited, longest};
 ghost use Rattle.values.specs.Answers.{spanMeans};
-ghost use Rattle.values.specs.Laws.{longest};
 ghost use Rattle.values.specs.Steps.{Stands, scaleMeans, NumberAt, PartAt, SumOf};
 
 pub enum SpanAnswer {
@@ -41,14 +40,14 @@ const DAY: u64 = 24 * HOUR;
 
 const WEEK: u64 = 7 * DAY;
 
-// What a name stands for.
+// What the name of a unit stands for.
 enum Scale {
     Microseconds(u64),
     Unknown,
 }
 
 enum NextPart {
-    // How many microseconds it adds, and where the next part starts.
+    // How many microseconds it adds, and how many bytes it takes with the blanks behind it.
     Found { amount: Amount, length: usize },
     Malformed,
 }
@@ -107,7 +106,7 @@ fn blanks(text: &[u8]) -> usize
 
 // ---- parts
 
-// The unit with a name.
+// How many microseconds the unit with this name has.
 fn scale_of(name: &[u8]) -> Scale
     ensures { λ r. ⌜ scaleMeans r ≡ scaleIn units (now (name .entry)) ⌝ }
 {
@@ -140,9 +139,9 @@ fn part(text: &[u8]) -> NextPart
     requires { ⌜ (0 < length (now text)) × (trimStart (now text) ≡ now text) ⌝ }
     ensures { λ r. ⌜ PartAt (now (text .entry)) r ⌝ }
 {
-    let n = leading_number(text);
-    let count = n.amount;
-    let digits = n.digits;
+    let number = leading_number(text);
+    let count = number.amount;
+    let digits = number.digits;
     if digits == 0 {
         return NextPart::Malformed;
     }
@@ -196,9 +195,9 @@ pub fn span(text: &[u8]) -> SpanAnswer
     if trimmed.len() == 0 {
         return SpanAnswer::Refused(Error::SpanForm);
     }
-    let n = leading_number(trimmed);
-    let count = n.amount;
-    if n.digits == trimmed.len() {
+    let number = leading_number(trimmed);
+    let count = number.amount;
+    if number.digits == trimmed.len() {
         return judged(times(count, SECOND));
     }
     match sum_parts(trimmed) {

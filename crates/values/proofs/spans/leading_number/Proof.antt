@@ -7,7 +7,7 @@ use lib.ListN.{length}
 use denote.Ref.{now}
 use borrow.Author.Needs.{needs}
 use Rattle.lines.specs.Bytes.{digit}
-use Rattle.values.proofs.Scan.{stops, done}
+use Rattle.values.proofs.Scan.{passed-stops, passed-done}
 use Rattle.values.proofs.Numbers.{Counted, counted-start, counted-more, counted-found}
 use Rattle.values.proofs.spans.leading_number.Statement.{statement}
 use Rattle.values.proofs.spans.leading_number.Tie as tie
@@ -56,14 +56,14 @@ returns c =
     let l = c .before .before .before .before in
     let t = now (l .before .before .args .text) in
     counted-found t (l .loop .amount) (l .loop .digits) (l .loop .inv)
-    (stops digit t (l .loop .digits) (l .loop .inv .passed) (omega arith) (sym (c .before .is-digit .ensures) ∙ c .if1 .left))
+    (passed-stops digit t (l .loop .digits) (l .loop .inv .passed) (omega arith) (sym (c .before .is-digit .ensures) ∙ c .if1 .left))
 
 returns-2 : tie.Need-returns-2 Inv-loop μ-loop
 returns-2 c =
     let l = c .before in
     let t = now (l .before .before .args .text) in
     counted-found t (l .loop .amount) (l .loop .digits) (l .loop .inv)
-    (done digit t (l .loop .digits) (l .loop .inv .passed) (omega arith))
+    (passed-done digit t (l .loop .digits) (l .loop .inv .passed) (omega arith))
 
 pub leading-number-spec : {M : Type 1} → statement M
 leading-number-spec =

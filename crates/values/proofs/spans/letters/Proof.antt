@@ -6,7 +6,7 @@ use lib.ListN.{length}
 use denote.Ref.{now}
 use borrow.Author.Needs.{needs}
 use Rattle.lines.specs.Bytes.{letter}
-use Rattle.values.proofs.Scan.{Passed, start, more, stops, done, length-found}
+use Rattle.values.proofs.Scan.{Passed, passed-start, passed-more, passed-stops, passed-done, length-found}
 use Rattle.values.proofs.spans.letters.Statement.{statement}
 use Rattle.values.proofs.spans.letters.Tie as tie
 
@@ -17,7 +17,7 @@ abbrev μ-loop : tie.MeasureT-loop
 μ-loop text n₀ n = length text - n
 
 loop-holds : tie.Need-loop-holds Inv-loop μ-loop
-loop-holds c = start letter _
+loop-holds c = passed-start letter _
 
 shared-slice-read-is-letter : tie.Need-shared-slice-read-is-letter Inv-loop μ-loop
 shared-slice-read-is-letter c = search needs
@@ -34,7 +34,7 @@ loop-less c = search needs
 loop-again : tie.Need-loop-again Inv-loop μ-loop
 loop-again c =
     let l = c .before .before .before .before in
-    more letter (now (l .before .before .args .text)) (l .loop .n) (l .loop .inv) (omega arith)
+    passed-more letter (now (l .before .before .args .text)) (l .loop .n) (l .loop .inv) (omega arith)
     (sym (c .before .is-letter .ensures) ∙ c .if1 .taken)
 
 returns : tie.Need-returns Inv-loop μ-loop
@@ -42,13 +42,13 @@ returns c =
     let l = c .before .before .before .before in
     let t = now (l .before .before .args .text) in
     sym (length-found letter t (l .loop .n) (l .loop .inv)
-    (stops letter t (l .loop .n) (l .loop .inv) (omega arith) (sym (c .before .is-letter .ensures) ∙ c .if1 .left)))
+    (passed-stops letter t (l .loop .n) (l .loop .inv) (omega arith) (sym (c .before .is-letter .ensures) ∙ c .if1 .left)))
 
 returns-2 : tie.Need-returns-2 Inv-loop μ-loop
 returns-2 c =
     let l = c .before in
     let t = now (l .before .before .args .text) in
-    sym (length-found letter t (l .loop .n) (l .loop .inv) (done letter t (l .loop .n) (l .loop .inv) (omega arith)))
+    sym (length-found letter t (l .loop .n) (l .loop .inv) (passed-done letter t (l .loop .n) (l .loop .inv) (omega arith)))
 
 pub letters-spec : {M : Type 1} → statement M
 letters-spec =

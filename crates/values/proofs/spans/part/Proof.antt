@@ -8,10 +8,9 @@ use denote.Ref.{now}
 use borrow.Author.Needs.{needs}
 use Rattle.lines.specs.Bytes.{Bytes, blank, letter}
 use Rattle.lines.proofs.Slices.{part-from}
-use Rattle.values.specs.Spans.{scaleIn, units}
-use Rattle.values.specs.Laws.{longest}
+use Rattle.values.specs.Spans.{scaleIn, units, longest}
 use Rattle.values.specs.Steps.{scaleMeans}
-use Rattle.values.proofs.Parts.{no-number, part-wrong, part-right, name-part, place-start, within}
+use Rattle.values.proofs.Parts.{no-number, part-wrong, part-right, name-part, place-start, run-inside}
 use Rattle.values.proofs.Units.{scale-positive}
 use Rattle.values.proofs.spans.part.Statement.{statement}
 use Rattle.values.proofs.spans.part.Tie as tie
@@ -52,7 +51,7 @@ gap-is c = c .blanks .ensures ∙ ap (λ (l : Bytes). length (longest blank l)) 
 
 gap-inside : (c : tie.After-blanks)
     → c .before .before .before .leading-number .result .digits + c .blanks .result ≤ length (now (c .before .before .before .before .before .args .text))
-gap-inside c = within blank _ (c .blanks .result) _ (gap-is c) (digits-inside (c .before .before .before))
+gap-inside c = run-inside blank _ (c .blanks .result) _ (gap-is c) (digits-inside (c .before .before .before))
 
 add-start : tie.Need-add-start
 add-start c = omega (arith, gap-inside c)
@@ -80,7 +79,7 @@ name-is : (c : tie.After-letters) → c .letters .result ≡ length (longest let
 name-is c = c .letters .ensures ∙ ap (λ (l : Bytes). length (longest letter l)) (part-from (start c) _)
 
 name-inside : (c : tie.After-letters) → start c + c .letters .result ≤ length (textOf c)
-name-inside c = within letter (start c) (c .letters .result) _ (name-is c) (gap-inside (c .before .before))
+name-inside c = run-inside letter (start c) (c .letters .result) _ (name-is c) (gap-inside (c .before .before))
 
 add-end : tie.Need-add-end
 add-end c = omega (arith, name-inside c)
@@ -150,7 +149,7 @@ behind-is c =
 add-length : tie.Need-add-length
 add-length c =
     let l = lettersOf c in
-    omega (arith, within blank (start l + l .letters .result) (c .blanks2 .result) (textOf l) (behind-is c) (name-inside l))
+    omega (arith, run-inside blank (start l + l .letters .result) (c .blanks2 .result) (textOf l) (behind-is c) (name-inside l))
 
 returns-3 : tie.Need-returns-3
 returns-3 c =

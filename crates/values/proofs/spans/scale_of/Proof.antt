@@ -7,7 +7,8 @@ use denote.Ref.{now}
 use borrow.Author.Needs.{needs}
 use Rattle.lines.specs.Bytes.{Bytes}
 use Rattle.values.specs.Spans.{TimeUnit, units, scaleIn}
-use Rattle.values.proofs.Words.{scale-hit, scale-miss, scale-none}
+use Rattle.values.proofs.Words.{scale-hit, scale-miss}
+use Rattle.values.proofs.Units.{scale-nil}
 use Rattle.values.proofs.spans.scale_of.Statement.{statement}
 use Rattle.values.proofs.spans.scale_of.Tie as tie
 
@@ -121,7 +122,7 @@ missed7 : (c : tie.Else7) → scaleIn units (name7 c) ≡ scaleIn (left 7) (name
 missed7 c = missed6 (c .before .before .before) ∙ scale-miss _ _ _ (c .before .same7 .ensures) (c .if7 .left)
 
 returns-8 : tie.Need-returns-8
-returns-8 c = sym (missed7 c ∙ scale-none _)
+returns-8 c = sym (missed7 c ∙ scale-nil _)
 
 pub scale-of-spec : {M : Type 1} → statement M
 scale-of-spec =

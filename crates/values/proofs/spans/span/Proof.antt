@@ -8,8 +8,7 @@ use borrow.Author.Needs.{needs}
 use Rattle.lines.specs.Bytes.{Bytes, digit}
 use Rattle.lines.specs.Trim.{trimStart}
 use Rattle.lines.proofs.Trimming.{trimmed-start}
-use Rattle.values.specs.Spans.{runs, tokens, partsOf}
-use Rattle.values.specs.Laws.{longest}
+use Rattle.values.specs.Spans.{runs, tokens, partsOf, longest}
 use Rattle.values.specs.Steps.{SumOf}
 use Rattle.values.specs.declared.spans.Sum.{Sum}
 use Rattle.values.proofs.Verdict.{span-empty, span-seconds, span-total, span-wrong}

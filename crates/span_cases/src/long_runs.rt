@@ -1,4 +1,4 @@
-// Runs of thousands of bytes.
+// Long runs of one byte.
 use crate::show::long_case;
 
 const MILLION: usize = 1000000;
