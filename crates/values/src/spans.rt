@@ -134,12 +134,12 @@ fn scale_of(name: &[u8]) -> Scale
     Scale::Unknown
 }
 
-// The part that a text starts with, and the blanks behind it. The text starts with no blank.
-fn part(text: &[u8]) -> NextPart
-    requires { ⌜ (0 < length (now text)) × (trimStart (now text) ≡ now text) ⌝ }
+// The part that a text starts with, and the blanks behind it. Its number has been read. The text starts with
+// no blank.
+fn part(text: &[u8], number: Number) -> NextPart
+    requires { ⌜ (0 < length (now text)) × ((trimStart (now text) ≡ now text) × NumberAt (now text) number) ⌝ }
     ensures { λ r. ⌜ PartAt (now (text .entry)) r ⌝ }
 {
-    let number = leading_number(text);
     let count = number.amount;
     let digits = number.digits;
     if digits == 0 {
@@ -155,18 +155,20 @@ fn part(text: &[u8]) -> NextPart
     NextPart::Found { amount, length }
 }
 
-// The sum of all parts of a text.
-fn sum_parts(text: &[u8]) -> Sum
-    requires { ⌜ trimStart (now text) ≡ now text ⌝ }
+// The sum of all parts of a text, whose first number has been read.
+fn sum_parts(text: &[u8], first: Number) -> Sum
+    requires { ⌜ (trimStart (now text) ≡ now text) × NumberAt (now text) first ⌝ }
     ensures { λ r. ⌜ SumOf (partsOf (tokens (runs (now (text .entry))))) r ⌝ }
 {
     let mut total = Amount::Exact(0);
     let mut offset = 0;
+    let mut number = first;
     while offset < text.len() {
-        match part(&text[offset..]) {
+        match part(&text[offset..], number) {
             NextPart::Found { amount, length } => {
                 total = plus(total, amount);
                 offset += length;
+                number = leading_number(&text[offset..]);
             }
             NextPart::Malformed => return Sum::Malformed,
         }
@@ -200,7 +202,7 @@ pub fn span(text: &[u8]) -> SpanAnswer
     if number.digits == trimmed.len() {
         return judged(times(count, SECOND));
     }
-    match sum_parts(trimmed) {
+    match sum_parts(trimmed, number) {
         Sum::Total(total) => judged(total),
         Sum::Malformed => SpanAnswer::Refused(Error::SpanForm),
     }

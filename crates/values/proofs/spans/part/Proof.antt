@@ -15,28 +15,24 @@ use Rattle.values.proofs.Units.{scale-positive}
 use Rattle.values.proofs.spans.part.Statement.{statement}
 use Rattle.values.proofs.spans.part.Tie as tie
 
-leading-number-requires : tie.Need-leading-number-requires
-leading-number-requires c κs = search needs
-
 returns : tie.Need-returns
 returns c =
-    let n = c .before in
-    let t = now (n .before .before .args .text) in
-    no-number t (n .before .before .pre .0) (n .before .before .pre .1) (sym (n .leading-number .ensures .digits-are) ∙ c .if1 .taken)
+    let s = c .before .before in
+    no-number (now (s .args .text)) (s .pre .0) (s .pre .1 .0) (sym (s .pre .1 .1 .digits-are) ∙ c .if1 .taken)
 
 -- ---- the four runs
 
-digits-inside : (c : tie.After-leading-number) → c .leading-number .result .digits ≤ length (now (c .before .before .args .text))
-digits-inside c = place-start (now (c .before .before .args .text)) _ (c .leading-number .ensures .digits-are)
+digits-inside : (c : tie.Else1) → c .before .before .args .number .digits ≤ length (now (c .before .before .args .text))
+digits-inside c = place-start (now (c .before .before .args .text)) _ (c .before .before .pre .1 .1 .digits-are)
 
-some-digit : (c : tie.Else1) → 0 < c .before .leading-number .result .digits
+some-digit : (c : tie.Else1) → 0 < c .before .before .args .number .digits
 some-digit c = omega (arith, c .if1 .left)
 
 sub-blanks : tie.Need-sub-blanks
-sub-blanks c = digits-inside (c .before)
+sub-blanks c = digits-inside c
 
 part-blanks-start : tie.Need-part-blanks-start
-part-blanks-start c = omega (arith, digits-inside (c .before))
+part-blanks-start c = omega (arith, digits-inside c)
 
 part-blanks-end : tie.Need-part-blanks-end
 part-blanks-end c = search needs
@@ -46,12 +42,14 @@ blanks-requires c κs = search needs
 
 gap-is : (c : tie.After-blanks)
     → c .blanks .result
-    ≡ length (longest blank (drop (c .before .before .before .leading-number .result .digits) (now (c .before .before .before .before .before .args .text))))
-gap-is c = c .blanks .ensures ∙ ap (λ (l : Bytes). length (longest blank l)) (part-from (c .before .before .before .leading-number .result .digits) _)
+    ≡ length (longest blank (drop (c .before .before .before .before .args .number .digits) (now (c .before .before .before .before .args .text))))
+gap-is c =
+    c .blanks .ensures
+    ∙ ap (λ (l : Bytes). length (longest blank l)) (part-from (c .before .before .before .before .args .number .digits) _)
 
 gap-inside : (c : tie.After-blanks)
-    → c .before .before .before .leading-number .result .digits + c .blanks .result ≤ length (now (c .before .before .before .before .before .args .text))
-gap-inside c = run-inside blank _ (c .blanks .result) _ (gap-is c) (digits-inside (c .before .before .before))
+    → c .before .before .before .before .args .number .digits + c .blanks .result ≤ length (now (c .before .before .before .before .args .text))
+gap-inside c = run-inside blank _ (c .blanks .result) _ (gap-is c) (digits-inside (c .before .before))
 
 add-start : tie.Need-add-start
 add-start c = omega (arith, gap-inside c)
@@ -70,10 +68,10 @@ letters-requires c κs = search needs
 
 -- the first byte behind the digits and the blanks
 abbrev start : tie.After-letters → ℕ
-start c = c .before .before .before .before .before .leading-number .result .digits + c .before .before .blanks .result
+start c = c .before .before .before .before .before .before .args .number .digits + c .before .before .blanks .result
 
 abbrev textOf : tie.After-letters → Bytes
-textOf c = now (c .before .before .before .before .before .before .before .args .text)
+textOf c = now (c .before .before .before .before .before .before .args .text)
 
 name-is : (c : tie.After-letters) → c .letters .result ≡ length (longest letter (drop (start c) (textOf c)))
 name-is c = c .letters .ensures ∙ ap (λ (l : Bytes). length (longest letter l)) (part-from (start c) _)
@@ -118,7 +116,7 @@ returns-2 : tie.Need-returns-2
 returns-2 c =
     let s = c .before .before in
     let b = s .before .before .before .before in
-    part-wrong (textOf (s .before .before)) _ (b .blanks .result) (b .before .before .before .leading-number .ensures .digits-are)
+    part-wrong (textOf (s .before .before)) _ (b .blanks .result) (b .before .before .before .before .pre .1 .1 .digits-are)
     (some-digit (b .before .before)) (gap-is b) (sym (scale-is s) ∙ ap scaleMeans (c .enum-told .given .1))
 
 times-requires : tie.Need-times-requires
@@ -155,19 +153,18 @@ returns-3 : tie.Need-returns-3
 returns-3 c =
     let l = lettersOf c in
     let b = l .before .before in
-    let n = b .before .before .before in
+    let n = b .before .before .before .before in
     let s = c .before .before .before .before in
-    part-right (textOf l) (c .before .before .times .result) (n .leading-number .result .digits) (b .blanks .result) (l .letters .result) (c .blanks2 .result) (s .scale .given .0 .0)
-    (record { digits = n .leading-number .ensures .digits-are; gap = gap-is b; name = name-is l; behind = behind-is c })
+    part-right (textOf l) (c .before .before .times .result) (n .args .number .digits) (b .blanks .result) (l .letters .result) (c .blanks2 .result) (s .scale .given .0 .0)
+    (record { digits = n .pre .1 .1 .digits-are; gap = gap-is b; name = name-is l; behind = behind-is c })
     (some-digit (b .before .before))
     (unit-is s)
-    (c .before .before .times .ensures _ (n .leading-number .ensures .amount-is))
+    (c .before .before .times .ensures _ (n .pre .1 .1 .amount-is))
 
 pub part-spec : {M : Type 1} → statement M
 part-spec =
     tie.close
     (tie.spec
-    leading-number-requires
     returns
     sub-blanks
     part-blanks-start

@@ -42,7 +42,10 @@ returns-2 c =
     ∙ sym (span-seconds _ _ (e .before .trim .ensures) (some-byte e) (sym (n .leading-number .ensures .digits-are) ∙ t .if2 .taken))
 
 sum-parts-requires : tie.Need-sum-parts-requires
-sum-parts-requires c κs = subst (λ (s : Bytes). trimStart s ≡ s) (sym (c .before .before .before .before .trim .ensures)) (trimmed-start _)
+sum-parts-requires c κs = (
+  subst (λ (s : Bytes). trimStart s ≡ s) (sym (c .before .before .before .before .trim .ensures)) (trimmed-start _),
+  c .before .before .leading-number .ensures,
+)
 
 -- other bytes than digits
 not-alone : (c : tie.Else2)
