@@ -1,4 +1,5 @@
--- Trimming: blanks at both ends go. The layer above trims each logical line, and ignores an empty one.
+-- Trimming: blanks at both ends go. The layer above trims each logical line, and ignores an empty one; spans are
+-- trimmed too.
 use mathlib.Core.Bool.{cond}
 use mathlib.Core.List.{[], _∷_}
 use Rattle.lines.specs.Bytes.{Bytes, blank, all}

@@ -41,10 +41,10 @@ unfolding all
 none-all p b bs h = rw h
 
 -- no digit at the start
-pub no-number : (t : Bytes) → 0 < length t → trimStart t ≡ t → length (longest digit t) ≡ 0 → firstPart (tokens (runs t)) ≡ none
-unfolding numeral
-no-number [] l h z = absurd (omega arith)
-no-number (b ∷ bs) l h z =
+pub no-number : (t : Bytes) → trimStart t ≡ t → length (longest digit t) ≡ 0 → firstPart (tokens (runs t)) ≡ none
+unfolding numeral tokens runs
+no-number [] h z = refl
+no-number (b ∷ bs) h z =
     let f = first-token b bs (first-nonblank b bs h) in
     let e : digit b ≡ false =
     is-false (digit b) (λ y. let k : length (longest digit (b ∷ bs)) ≡ length (b ∷ longest digit bs) = ap length (longest-more digit b bs y) in absurd (omega arith))

@@ -14,7 +14,7 @@ pub record SpanRow : Type 0 where
   pub text : Bytes
   pub outcome : Outcome ℕ
 
--- the cases 14 to 16; 15 has the largest number of seconds too
+-- the cases 14 to 16; 15 has a second row for "one less is accepted", with its value
 abbrev pub spanRows : List SpanRow
 spanRows =
     record { case = 14; text = bytes "2min 200ms"; outcome = accepted 120200000 } ∷

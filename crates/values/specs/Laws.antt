@@ -21,9 +21,7 @@ RunsLongest = (b : ℕ) (bs : Bytes)
 
 -- ---- the form of a span, said once more: by the texts that have it
 
--- A part as it is written: digits, blanks or none, the name of a unit, blanks or none. What follows the name
--- is a blank, a digit or the end, so the name is the longest run of letters there. The scale is what the name
--- stands for.
+-- a part as it is written: digits, blanks or none, the name of a unit with its scale, blanks or none
 pub record Spelling : Type 0 where
   pub digits : Bytes
   pub gap : Bytes
@@ -31,7 +29,7 @@ pub record Spelling : Type 0 where
   pub scale : ℕ
   pub behind : Bytes
 
--- there are one or more digits, the blanks are blanks, and there is such a unit
+-- so it has to be: one or more digits, blanks that are blanks, and such a unit
 pub record SoundPart (p : Spelling) : Type 0 where
   pub some-digit : 0 < length (p .digits)
   pub all-digits : all digit (p .digits) ≡ true
@@ -43,7 +41,8 @@ pub record SoundPart (p : Spelling) : Type 0 where
 abbrev pub spelt : Spelling → Bytes
 spelt p = p .digits ++ p .gap ++ p .name ++ p .behind
 
--- and of parts, one after the other
+-- And of parts, one after the other. Where all are sound, a name is followed by a blank, by the first digit of
+-- the next part, or by the end; so it is the longest run of letters there.
 abbrev pub allSpelt : List Spelling → Bytes
 allSpelt [] = []
 allSpelt (p ∷ ps) = spelt p ++ allSpelt ps

@@ -1,5 +1,5 @@
--- Time spans, in microseconds. A trimmed text is cut into tokens; these are digits alone, or numbers with
--- units by twos; the parts that they make are added up.
+-- Time spans, in microseconds. A trimmed text that is digits alone is seconds. Any other is cut into tokens,
+-- which have to be numbers and units by twos; the parts that they make are added up.
 use Prim.Native.Nat.{ℕ, zero, suc, _+_, _-_, _*_}
 use mathlib.Core.Bool.{Bool, false, _&&_, _||_, cond}
 use mathlib.Core.Option.{Option, none, some}
@@ -93,7 +93,7 @@ runs [] = []
 runs (b ∷ []) = (b ∷ []) ∷ []
 runs (b ∷ c ∷ bs) = cond (alike b c) (lengthen b (runs (c ∷ bs))) ((b ∷ []) ∷ runs (c ∷ bs))
 
--- the bytes at the start that pass, as many as there are: what a longest run is (`RunsLongest`)
+-- the bytes at the start that pass, as many as there are (for Laws and Steps, which say what a longest run is)
 unfoldable pub longest : (ℕ → Bool) → Bytes → Bytes
 longest p [] = []
 longest p (b ∷ bs) = cond (p b) (b ∷ longest p bs) []
@@ -142,7 +142,7 @@ unfolding partsOf
 oneOrMore [] = none
 oneOrMore (t ∷ ts) = partsOf (t ∷ ts)
 
--- A trimmed text: digits alone are seconds, anything else is one or more parts. None where it is neither.
+-- a trimmed text: digits alone are seconds; any other has to be one or more parts, and none where it is not
 unfoldable pub spanParts : Bytes → Option (List Part)
 unfolding numeral decimal runs tokens oneOrMore
 spanParts t =

@@ -1,5 +1,5 @@
 -- What the functions inside the crate promise: sums that may be too large, and the steps of reading a span.
--- The enums here are no answers of the rules: 31 and 32 arise in `span`.
+-- The enums here are no answers of the rules: 31 arises in `span`, 32 in `judged`.
 use mathlib.Core.Path.{_≡_}
 use Prim.Native.Nat.{ℕ, _*_, _≤_, _<_}
 use mathlib.Core.Option.{Option, none, some}
@@ -33,7 +33,7 @@ abbrev pub scaleMeans : Scale → Option ℕ
 scaleMeans (Microseconds n) = some n
 scaleMeans Unknown = none
 
--- the part that the first two tokens make
+-- the part that the first two tokens make; none where there are fewer
 abbrev pub firstPart : List Bytes → Option Part
 firstPart [] = none
 firstPart (n ∷ []) = none
@@ -50,7 +50,7 @@ pub record PartFound (t : Bytes) (a : Amount) (n : ℕ) : Type 0 where
   pub inside : n ≤ length t
   pub no-blank : trimStart (drop n t) ≡ drop n t
 
--- the first part of a text, or its first two tokens make none
+-- the first part of a text, or no two tokens that make one
 abbrev pub PartAt : Bytes → NextPart → Type 0
 PartAt t (Found a n) = PartFound t a n
 PartAt t Malformed = firstPart (tokens (runs t)) ≡ none

@@ -23,7 +23,7 @@ pub(crate) fn push(amount: Amount, digit: u64) -> Amount
     }
 }
 
-// Times the microseconds of a unit.
+// Times the microseconds of a unit, which has at least one.
 pub(crate) fn times(amount: Amount, scale: u64) -> Amount
     requires { ⌜ 0 < scale ⌝ }
     ensures { λ r. ⌜ ((v : ℕ) → Stands amount v → Stands r (v * scale)) ⌝ }

@@ -23,7 +23,7 @@ pub enum SpanAnswer {
     Refused(Error),
 }
 
-// The number that a text starts with, and how many digits it has.
+// The number that the digits at the start of a text write, 0 where there are none, and how many these are.
 struct Number {
     amount: Amount,
     digits: usize,
@@ -59,6 +59,7 @@ enum Sum {
 
 // ---- runs of bytes at the start of a text
 
+// What a digit stands for.
 fn digit_value(b: u8) -> u64
     requires { ⌜ digit b ≡ true ⌝ }
     ensures { λ r. ⌜ r ≡ b - 0x30 ⌝ }
@@ -66,6 +67,7 @@ fn digit_value(b: u8) -> u64
     (b - b'0') as u64
 }
 
+// Goes over the digits at the start of a text.
 fn leading_number(text: &[u8]) -> Number
     ensures { λ r. ⌜ NumberAt (now (text .entry)) r ⌝ }
 {
@@ -82,7 +84,7 @@ fn leading_number(text: &[u8]) -> Number
     Number { amount, digits }
 }
 
-// How many letters it starts with.
+// How many letters a text starts with.
 fn letters(text: &[u8]) -> usize
     ensures { λ r. ⌜ r ≡ length (longest letter (now (text .entry))) ⌝ }
 {
@@ -97,7 +99,7 @@ fn letters(text: &[u8]) -> usize
     n
 }
 
-// How many blanks it starts with.
+// How many blanks a text starts with.
 fn blanks(text: &[u8]) -> usize
     ensures { λ r. ⌜ r ≡ length (longest blank (now (text .entry))) ⌝ }
 {
@@ -135,9 +137,9 @@ fn scale_of(name: &[u8]) -> Scale
 }
 
 // The part that a text starts with, and the blanks behind it. Its number has been read. The text starts with
-// no blank.
+// no blank; an empty one has no part.
 fn part(text: &[u8], number: Number) -> NextPart
-    requires { ⌜ (0 < length (now text)) × ((trimStart (now text) ≡ now text) × NumberAt (now text) number) ⌝ }
+    requires { ⌜ (trimStart (now text) ≡ now text) × NumberAt (now text) number ⌝ }
     ensures { λ r. ⌜ PartAt (now (text .entry)) r ⌝ }
 {
     let count = number.amount;
@@ -155,7 +157,8 @@ fn part(text: &[u8], number: Number) -> NextPart
     NextPart::Found { amount, length }
 }
 
-// The sum of all parts of a text, whose first number has been read.
+// The sum of all parts of a text that starts with no blank. Its first number has been read. An empty text has no
+// part, and the sum 0.
 fn sum_parts(text: &[u8], first: Number) -> Sum
     requires { ⌜ (trimStart (now text) ≡ now text) × NumberAt (now text) first ⌝ }
     ensures { λ r. ⌜ SumOf (partsOf (tokens (runs (now (text .entry))))) r ⌝ }

@@ -18,12 +18,12 @@ use Rattle.values.proofs.spans.part.Tie as tie
 returns : tie.Need-returns
 returns c =
     let s = c .before .before in
-    no-number (now (s .args .text)) (s .pre .0) (s .pre .1 .0) (sym (s .pre .1 .1 .digits-are) ∙ c .if1 .taken)
+    no-number (now (s .args .text)) (s .pre .0) (sym (s .pre .1 .digits-are) ∙ c .if1 .taken)
 
 -- ---- the four runs
 
 digits-inside : (c : tie.Else1) → c .before .before .args .number .digits ≤ length (now (c .before .before .args .text))
-digits-inside c = place-start (now (c .before .before .args .text)) _ (c .before .before .pre .1 .1 .digits-are)
+digits-inside c = place-start (now (c .before .before .args .text)) _ (c .before .before .pre .1 .digits-are)
 
 some-digit : (c : tie.Else1) → 0 < c .before .before .args .number .digits
 some-digit c = omega (arith, c .if1 .left)
@@ -116,7 +116,7 @@ returns-2 : tie.Need-returns-2
 returns-2 c =
     let s = c .before .before in
     let b = s .before .before .before .before in
-    part-wrong (textOf (s .before .before)) _ (b .blanks .result) (b .before .before .before .before .pre .1 .1 .digits-are)
+    part-wrong (textOf (s .before .before)) _ (b .blanks .result) (b .before .before .before .before .pre .1 .digits-are)
     (some-digit (b .before .before)) (gap-is b) (sym (scale-is s) ∙ ap scaleMeans (c .enum-told .given .1))
 
 times-requires : tie.Need-times-requires
@@ -156,10 +156,10 @@ returns-3 c =
     let n = b .before .before .before .before in
     let s = c .before .before .before .before in
     part-right (textOf l) (c .before .before .times .result) (n .args .number .digits) (b .blanks .result) (l .letters .result) (c .blanks2 .result) (s .scale .given .0 .0)
-    (record { digits = n .pre .1 .1 .digits-are; gap = gap-is b; name = name-is l; behind = behind-is c })
+    (record { digits = n .pre .1 .digits-are; gap = gap-is b; name = name-is l; behind = behind-is c })
     (some-digit (b .before .before))
     (unit-is s)
-    (c .before .before .times .ensures _ (n .pre .1 .1 .amount-is))
+    (c .before .before .times .ensures _ (n .pre .1 .amount-is))
 
 pub part-spec : {M : Type 1} → statement M
 part-spec =

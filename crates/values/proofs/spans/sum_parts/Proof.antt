@@ -38,7 +38,7 @@ part-requires : tie.Need-part-requires Inv-loop μ-loop
 part-requires c κs =
     let l = c .before .before in
     let t = now (l .before .before .args .text) in
-    rw (part-from (l .loop .offset) t) (omega (arith, length-drop (l .loop .offset) t), (l .loop .inv .0 .no-blank, l .loop .inv .1))
+    rw (part-from (l .loop .offset) t) (l .loop .inv .0 .no-blank, l .loop .inv .1)
 
 enum-known-amount : tie.Need-enum-known-amount Inv-loop μ-loop
 enum-known-amount c = search needs
