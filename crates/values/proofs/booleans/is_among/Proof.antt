@@ -1,11 +1,8 @@
--- `is_false` asks the words for false one by one: each return is one more step along the list.
+-- `is_among` asks the words one by one: each return is one more step along the list.
 use borrow.Author.Needs.{needs}
 use Rattle.values.proofs.Words.{or-hit, or-miss, or-last}
-use Rattle.values.proofs.booleans.is_false.Statement.{statement}
-use Rattle.values.proofs.booleans.is_false.Tie as tie
-
-slice-aggregate-same : tie.Need-slice-aggregate-same
-slice-aggregate-same c = search needs
+use Rattle.values.proofs.booleans.is_among.Statement.{statement}
+use Rattle.values.proofs.booleans.is_among.Tie as tie
 
 same-requires : tie.Need-same-requires
 same-requires c κs = search needs
@@ -13,17 +10,11 @@ same-requires c κs = search needs
 returns : tie.Need-returns
 returns c = search or-hit
 
-slice-aggregate-same-2 : tie.Need-slice-aggregate-same-2
-slice-aggregate-same-2 c = search needs
-
 same-requires-2 : tie.Need-same-requires-2
 same-requires-2 c κs = search needs
 
 returns-2 : tie.Need-returns-2
 returns-2 c = search (or-miss, or-hit)
-
-slice-aggregate-same-3 : tie.Need-slice-aggregate-same-3
-slice-aggregate-same-3 c = search needs
 
 same-requires-3 : tie.Need-same-requires-3
 same-requires-3 c κs = search needs
@@ -31,28 +22,21 @@ same-requires-3 c κs = search needs
 returns-3 : tie.Need-returns-3
 returns-3 c = search (or-miss, or-hit)
 
-slice-aggregate-same-4 : tie.Need-slice-aggregate-same-4
-slice-aggregate-same-4 c = search needs
-
 same-requires-4 : tie.Need-same-requires-4
 same-requires-4 c κs = search needs
 
 returns-4 : tie.Need-returns-4
 returns-4 c = search (or-miss, or-last)
 
-pub is-false-spec : {M : Type 1} → statement M
-is-false-spec =
+pub is-among-spec : {M : Type 1} → statement M
+is-among-spec =
     tie.close
     (tie.spec
-    slice-aggregate-same
     same-requires
     returns
-    slice-aggregate-same-2
     same-requires-2
     returns-2
-    slice-aggregate-same-3
     same-requires-3
     returns-3
-    slice-aggregate-same-4
     same-requires-4
     returns-4)
