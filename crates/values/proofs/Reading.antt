@@ -1,6 +1,6 @@
 -- A text that is read as a span spells it: its tokens are laid out with blanks before them and behind each, and two
 -- tokens that make a part spell it.
-use mathlib.Core.Path.{_≡_, refl, sym, ap, _∙_}
+use mathlib.Core.Path.{_≡_, refl, sym, ap, subst, _∙_}
 use Prim.Native.Nat.{ℕ, _<_}
 use native.Mathlib.Omega.{arith}
 use mathlib.Core.Bool.{true, false}
@@ -15,7 +15,7 @@ use Rattle.lines.proofs.Trimming.{trimStart-nil, trimEnd-nil, trimStart-blanks,
 use Rattle.values.specs.Spans.{second, numeral, decimal, units, scaleIn, runs, tokens, Part, counted, partOf, withPart, partsOf, spanParts}
 use Rattle.values.specs.Laws.{Spelling, SoundPart, allSpelt, allMeant, meant, Seconds, Spells, as-seconds, as-parts}
 use Rattle.values.proofs.Numbers.{numeral-digits}
-use Rattle.values.proofs.Verdict.{some-parts}
+use Rattle.values.proofs.Verdict.{fault-kept, some-parts}
 use Rattle.values.proofs.Blanks.{tokens-trimmed}
 use Rattle.values.proofs.Gaps.{Laid, end, token, Layout, layout}
 use Rattle.values.proofs.Forms.{digits-token}
@@ -43,7 +43,8 @@ more : (n gap u behind t : Bytes) → 0 < length n → all digit n ≡ true → 
     → (s : Option ℕ) → scaleIn units u ≡ s → (o : Option (List Part)) → Reads t o
     → Reads (n ++ (gap ++ (u ++ (behind ++ t)))) (withPart (counted (decimal n) s) o)
 more n gap u behind t l d g b none e o r = tt
-more n gap u behind t l d g b (some s) e none r = tt
+more n gap u behind t l d g b (some s) e none r =
+    subst (Reads (n ++ (gap ++ (u ++ (behind ++ t))))) (sym (fault-kept (record { number = decimal n; scale = s }))) tt
 more n gap u behind t l d g b (some s) e (some ps) r =
     let p : Spelling = record { digits = n; gap = gap; name = u; scale = s; behind = behind } in
     record {

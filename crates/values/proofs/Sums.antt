@@ -15,6 +15,7 @@ use Rattle.values.specs.Steps.{Stands, firstPart, PartFound, Totalled}
 use Rattle.values.specs.declared.amount.Amount.{Amount}
 use Rattle.values.specs.declared.amount.Amount.the-variants.{Exact}
 use Rattle.values.proofs.Runs.{some-token}
+use Rattle.values.proofs.Verdict.{fault-kept}
 
 -- parts in front of others, where these have the form
 unfoldable pub ahead : List Part → Option (List Part) → Option (List Part)
@@ -28,7 +29,7 @@ ahead-nil (some qs) = refl
 
 ahead-part : (ps : List Part) (p : Part) (o : Option (List Part)) → ahead ps (withPart (some p) o) ≡ ahead (ps ++ p ∷ []) o
 unfolding ahead
-ahead-part ps p none = refl
+ahead-part ps p none = ap (ahead ps) (fault-kept p)
 ahead-part ps p (some qs) = ap some (sym (append-assoc ps (p ∷ []) qs))
 
 microseconds-snoc : (ps : List Part) (p : Part) → microseconds (ps ++ p ∷ []) ≡ microseconds ps + p .number * p .scale

@@ -12,7 +12,7 @@ use Rattle.lines.specs.Trim.{trimStart, trimmed}
 use Rattle.lines.specs.Answers.{refused}
 use Rattle.lines.proofs.Bools.{is-false, clash}
 use Rattle.lines.proofs.Trimming.{trimmed-start}
-use Rattle.values.specs.Spans.{decimal, second, runs, tokens, Part, partsOf, oneOrMore, spanParts, microseconds, sized, spanOf, limited, longest}
+use Rattle.values.specs.Spans.{decimal, second, runs, tokens, Part, withPart, partsOf, oneOrMore, spanParts, microseconds, sized, spanOf, limited, longest}
 use Rattle.values.specs.Steps.{Totalled}
 use Rattle.values.specs.declared.amount.Amount.{Amount}
 use Rattle.values.proofs.Longest.{longest-all, longest-whole, longest-of-all}
@@ -40,6 +40,10 @@ parts-units (b ∷ bs) h l = rw h (one-or-more (tokens (runs (b ∷ bs))) l)
     one-or-more : (ts : List Bytes) → 0 < length ts → oneOrMore ts ≡ partsOf ts
     one-or-more [] k = absurd (omega arith)
     one-or-more (t ∷ ts) k = refl
+
+-- a fault behind a part is a fault of the whole, however large the part is
+pub fault-kept : (p : Part) → withPart (some p) none ≡ none
+fault-kept p = refl
 
 pub some-parts : (ts : List Bytes) (ps : List Part) → oneOrMore ts ≡ some ps → partsOf ts ≡ some ps
 unfolding oneOrMore
