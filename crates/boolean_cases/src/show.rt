@@ -1,8 +1,8 @@
 // The form of a case: `boolean`, its text, and the answer.
+use listing::lay_apart;
 use listing::print;
 use listing::print_refused;
 use listing::print_run;
-use listing::run_in;
 use values::BooleanAnswer;
 
 // A text that prints stands in brackets.
@@ -26,8 +26,8 @@ fn case_in(buffer: &mut [u8], head: &[u8], byte: u8, count: usize, tail: &[u8]) 
     print(b"boolean ");
     print_run(head, byte, count, tail);
     print(b" ");
-    let text = run_in(buffer, head, count, tail);
-    print_answer(text);
+    let length = lay_apart(buffer, head, count, tail);
+    print_answer(&buffer[0..length]);
 }
 
 fn print_answer(text: &[u8]) {

@@ -2,7 +2,7 @@
 use crate::list;
 use crate::print;
 use crate::print_number;
-use crate::texts::text_in;
+use crate::texts::lay;
 
 // A whole file. Lines of more than 200 bytes are cut.
 pub fn case(name: &[u8], file: &[u8]) {
@@ -23,6 +23,10 @@ pub fn text_case(name: &[u8], file: &[u8]) {
 // A file of a head, one byte up to the index `end`, and a tail.
 pub fn long_case(name: &[u8], head: &[u8], byte: u8, end: usize, tail: &[u8]) {
     let mut file = [byte; 65536];
-    let text = text_in(&mut file, head, end, tail);
-    case(name, text);
+    case_in(name, &mut file, head, end, tail);
+}
+
+fn case_in(name: &[u8], file: &mut [u8], head: &[u8], end: usize, tail: &[u8]) {
+    let length = lay(file, head, end, tail);
+    case(name, &file[0..length]);
 }

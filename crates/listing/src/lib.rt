@@ -10,8 +10,8 @@ use lines::Check;
 use lines::Cursor;
 use lines::Error;
 use lines::Next;
+pub use texts::lay_apart;
 pub use texts::print_run;
-pub use texts::run_in;
 
 pub fn print(text: &[u8]) {
     io::write_all(STDOUT_FILENO, text);

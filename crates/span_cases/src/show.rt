@@ -1,9 +1,9 @@
 // The form of a case: `span`, its text, and the answer.
+use listing::lay_apart;
 use listing::print;
 use listing::print_refused;
 use listing::print_run;
 use listing::print_u64;
-use listing::run_in;
 use values::SpanAnswer;
 
 // A text that prints stands in brackets.
@@ -43,8 +43,12 @@ pub fn unit_cases(unit: &[u8]) {
 
 fn number_case(number: &[u8], unit: &[u8]) {
     let mut buffer = [0u8; 64];
-    let text = run_in(&mut buffer, number, 0, unit);
-    case(text);
+    number_case_in(&mut buffer, number, unit);
+}
+
+fn number_case_in(buffer: &mut [u8], number: &[u8], unit: &[u8]) {
+    let length = lay_apart(buffer, number, 0, unit);
+    case(&buffer[0..length]);
 }
 
 // A text of a head, a run of the byte that the buffer is full of, and a tail.
@@ -52,8 +56,8 @@ fn case_in(buffer: &mut [u8], head: &[u8], byte: u8, count: usize, tail: &[u8]) 
     print(b"span ");
     print_run(head, byte, count, tail);
     print(b" ");
-    let text = run_in(buffer, head, count, tail);
-    print_answer(text);
+    let length = lay_apart(buffer, head, count, tail);
+    print_answer(&buffer[0..length]);
 }
 
 pub fn byte_case(head: &[u8], byte: u8, tail: &[u8]) {

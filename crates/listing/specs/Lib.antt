@@ -1,0 +1,2 @@
+-- What `listing` promises of the buffers that it fills.
+pub mod Texts
