@@ -68,3 +68,12 @@ module _ {A : Type 0} where
   set-put d n p b a h =
       let e : length (take n d ++ p) ≡ n + length p = length-append (take n d) p ∙ rw (length-take-le n d h) in
       rw (put-last d n p b) (set-at (take n d ++ p) _ _ a (n + length p) e ∙ sym (put-last d n p a))
+
+  -- a part behind a part that was put
+  put-front : (d : List A) (n : ℕ) (p : List A) → n ≤ length d → put d n p ≡ filled (take n d ++ p) d
+  put-front d n p h = rw (length-append (take n d) p, length-take-le n d h)
+
+  pub put-put : (d : List A) (n : ℕ) (p q : List A) → n ≤ length d → put (put d n p) (n + length p) q ≡ put d n (p ++ q)
+  put-put d n p q h =
+      let e : n + length p ≡ length (take n d ++ p) = sym (length-append (take n d) p ∙ rw (length-take-le n d h)) in
+      rw (put-front d n p h, e, filled-put (take n d ++ p) q d, append-assoc (take n d) p q) (sym (put-front d n (p ++ q) h))
