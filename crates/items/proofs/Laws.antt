@@ -1,0 +1,24 @@
+-- The laws that specs/Laws.antt states, each by the module that proves it.
+use Rattle.items.specs.Laws.{SpelledSplits, SplitIsSpelled, RoundTrip, SameWritten, CutLaidAgain, LaidCutAgain}
+use Rattle.items.proofs.SpelledItems.{spelled-splits}
+use Rattle.items.proofs.ItemsBack.{split-spelled}
+use Rattle.items.proofs.WrittenBack.{written-splits, same-written}
+use Rattle.items.proofs.LaidOut.{cut-laid-again, laid-cut-again}
+
+pub spelled-is-split : SpelledSplits
+spelled-is-split = spelled-splits
+
+pub split-is-spelled : SplitIsSpelled
+split-is-spelled = split-spelled
+
+pub round-trip : RoundTrip
+round-trip = written-splits
+
+pub same-text-same-items : SameWritten
+same-text-same-items = same-written
+
+pub cut-is-laid-again : CutLaidAgain
+cut-is-laid-again = cut-laid-again
+
+pub laid-is-cut-again : LaidCutAgain
+laid-is-cut-again = laid-cut-again

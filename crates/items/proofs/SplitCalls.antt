@@ -1,0 +1,116 @@
+-- A call of `split`, by its answer: each refusal, and the items that were read and copied.
+use mathlib.Core.Path.{_≡_, refl, sym, ap, subst, _∙_}
+use Prim.Native.Nat.{ℕ, _+_, _-_, _≤_, _<_}
+use native.Mathlib.Nat.{zero-add}
+use native.Mathlib.Omega.{arith}
+use mathlib.Core.Bool.{true, false, cond, _||_}
+use mathlib.Core.List.{List, [], _∷_, _++_}
+use lib.Dec.{leb}
+use lib.ListN.{length, take, length-take}
+use borrow.Author.Tests.{lt-ltb, le-ltb, le-leb}
+use Rattle.lines.specs.Bytes.{Bytes, any}
+use Rattle.lines.specs.Answers.{Outcome, accepted, refused}
+use Rattle.lines.specs.Buffers.{put, filled}
+use Rattle.lines.proofs.Buffers.{take-filled}
+use Rattle.items.specs.Pieces.{pieces}
+use Rattle.items.specs.Split.{forbidden, firstForbidden, itemsOf, splitOf, splitIn, bytesOf, endsFrom}
+use Rattle.items.specs.Answers.{numberOf, placeOf, Counts, splitMeans, counted, bytesAfter, endsAfter, Splits}
+use Rattle.items.specs.Steps.{AllRead, ReadAll, SplitInto}
+use Rattle.items.specs.declared.error.Error.{Error}
+use Rattle.items.specs.declared.error.Error.the-variants.{ShortBuffer, TextTooLong, ForbiddenByte}
+use Rattle.items.specs.declared.splitter.SplitAnswer.{SplitAnswer}
+use Rattle.items.specs.declared.splitter.SplitAnswer.the-variants.{Accepted, Refused}
+use Rattle.items.proofs.Forbidden.{forbidden-there, none-forbidden}
+use Rattle.items.proofs.SplitLoop.{ends-length}
+
+-- ---- by way of buffers of its own
+
+pub all-known : (o : Outcome (List Bytes)) (b b' : Bytes) (e e' : List ℕ) (r : SplitAnswer) (n m : ℕ) → r ≡ Accepted n m
+    → ReadAll o b b' e e' r → AllRead o n m b b' e e'
+all-known o b b' e e' r n m q h = subst (ReadAll o b b' e e') q h
+
+-- a refusal leaves the lent buffers as they were
+pub apart-refused : (o : Outcome (List Bytes)) (b b' : Bytes) (e e' : List ℕ) (r : SplitAnswer) (k : Error) → r ≡ Refused k
+    → ReadAll o b b' e e' r → (bytes : Bytes) (ends : List ℕ) → SplitInto o bytes ends r bytes ends
+apart-refused o b b' e e' r k q h bytes ends =
+    let f : o ≡ refused (numberOf k) (placeOf k) = subst (ReadAll o b b' e e') q h in
+    record {
+      answer = ap splitMeans q ∙ sym (ap counted f);
+      bytes-after = sym (ap (λ (x : Outcome (List Bytes)). bytesAfter x bytes) f);
+      ends-after = sym (ap (λ (x : Outcome (List Bytes)). endsAfter x ends) f);
+    }
+
+-- the front of a buffer that was filled
+front : {A : Type 0} (xs d : List A) (n : ℕ) → n ≡ length xs → take (n - 0) (filled xs d) ≡ xs
+front xs d n e =
+    let k : n - 0 ≡ length xs = omega arith in
+    rw k (take-filled xs d)
+
+-- numbers that are copied are no more than there were
+pub front-fits : (n : ℕ) (l e : List ℕ) → length l ≤ length e → length (take n l) ≤ length e
+front-fits n l e h = omega (arith, length-take n l)
+
+-- items that were read are copied
+pub apart-copied : (o : Outcome (List Bytes)) (b b' : Bytes) (e e' : List ℕ) (n m : ℕ)
+    → AllRead o n m b b' e e' → (bytes bytes' : Bytes) (ends ends' : List ℕ) → 4096 ≤ length bytes
+    → bytes' ≡ cond (leb (0 + length (take (m - 0) b')) (length bytes)) (put bytes 0 (take (m - 0) b')) bytes
+    → ends' ≡ filled (take (n - 0) e') ends
+    → SplitInto o bytes ends (Accepted n m) bytes' ends'
+apart-copied o b b' e e' n m h bytes bytes' ends ends' l p w =
+    let x : take (m - 0) b' ≡ bytesOf (h .items) = ap (take (m - 0)) (h .bytes-are) ∙ front (bytesOf (h .items)) b m (h .size-is) in
+    let y : take (n - 0) e' ≡ endsFrom 0 (h .items) = ap (take (n - 0)) (h .ends-are) ∙ front (endsFrom 0 (h .items)) e n (h .count-is ∙ sym (ends-length 0 (h .items))) in
+    let z : 0 + length (bytesOf (h .items)) ≤ length bytes = omega (arith, h .fits, h .size-is) in
+    record {
+      answer = rw (h .count-is, h .size-is) (sym (ap counted (h .outcome)));
+      bytes-after =
+          p ∙ rw (x, le-leb (0 + length (bytesOf (h .items))) (length bytes) z, zero-add)
+          (sym (ap (λ (k : Outcome (List Bytes)). bytesAfter k bytes) (h .outcome)));
+      ends-after = w ∙ rw y (sym (ap (λ (k : Outcome (List Bytes)). endsAfter k ends) (h .outcome)));
+    }
+
+-- ---- the call
+
+module _ (t bytes : Bytes) (ends : List ℕ) where
+  call-refused : (k : Error) → splitIn (length bytes) (length ends) t ≡ refused (numberOf k) (placeOf k) → Splits t bytes ends (Refused k) bytes ends
+  call-refused k e =
+      record {
+        answer = sym (ap counted e);
+        bytes-after = sym (ap (λ (x : Outcome (List Bytes)). bytesAfter x bytes) e);
+        ends-after = sym (ap (λ (x : Outcome (List Bytes)). endsAfter x ends) e);
+      }
+
+  pub short-bytes : length bytes < 4096 → Splits t bytes ends (Refused ShortBuffer) bytes ends
+  unfolding splitIn
+  short-bytes h = call-refused ShortBuffer (rw (lt-ltb (length bytes) 4096 h))
+
+  module _ (hb : 4096 ≤ length bytes) where
+    pub short-ends : length ends < 256 → Splits t bytes ends (Refused ShortBuffer) bytes ends
+    unfolding splitIn
+    short-ends h = call-refused ShortBuffer (rw (le-ltb (length bytes) 4096 hb, lt-ltb (length ends) 256 h))
+
+    module _ (he : 256 ≤ length ends) where
+      enough : splitIn (length bytes) (length ends) t ≡ splitOf t
+      unfolding splitIn
+      enough = rw (le-ltb (length bytes) 4096 hb, le-ltb (length ends) 256 he)
+
+      pub too-long : 4096 < length t → Splits t bytes ends (Refused TextTooLong) bytes ends
+      unfolding splitOf
+      too-long h = call-refused TextTooLong (enough ∙ rw (lt-ltb 4096 (length t) h))
+
+      module _ (ht : length t ≤ 4096) (i : ℕ) (e : i ≡ firstForbidden t) where
+        pub forbidden-byte : i < length t → Splits t bytes ends (Refused (ForbiddenByte i)) bytes ends
+        unfolding splitOf
+        forbidden-byte h =
+            call-refused (ForbiddenByte i)
+            (enough ∙ rw (le-ltb 4096 (length t) ht, forbidden-there t (omega arith), e))
+
+        pub split-apart : length t ≤ i → (r : SplitAnswer) (bytes' : Bytes) (ends' : List ℕ)
+            → SplitInto (itemsOf 256 (pieces t)) bytes ends r bytes' ends' → Splits t bytes ends r bytes' ends'
+        unfolding splitOf
+        split-apart h r bytes' ends' s =
+            let f : splitIn (length bytes) (length ends) t ≡ itemsOf 256 (pieces t) = enough ∙ rw (le-ltb 4096 (length t) ht, none-forbidden t (omega arith)) in
+            record {
+              answer = s .answer ∙ sym (ap counted f);
+              bytes-after = s .bytes-after ∙ sym (ap (λ (x : Outcome (List Bytes)). bytesAfter x bytes) f);
+              ends-after = s .ends-after ∙ sym (ap (λ (x : Outcome (List Bytes)). endsAfter x ends) f);
+            }
