@@ -3,8 +3,8 @@ pub mod Bools
 pub mod Comparison
 pub mod ByteClasses
 pub mod Buffers
-pub mod Trimming
 pub mod Slices
+pub mod Trimming
 pub mod LineFeeds
 -- UTF-8 and the check of a file
 pub mod Utf8Laws

@@ -4,12 +4,12 @@ use Prim.Native.Nat.{ℕ, suc, _+_, _-_, _≤_, _<_}
 use native.Mathlib.Omega.{arith}
 use mathlib.Core.Bool.{true, false, not, _&&_, cond}
 use mathlib.Core.List.{[], _∷_, _++_, append-nil, append-assoc}
-use native.Mathlib.Numerals.{add-one}
 use lib.ListN.{length, take, drop, getD, drop-of-length-le}
-use lib.Seq.{drop-cons, take-suc}
+use lib.Seq.{take-suc}
 use Rattle.lines.specs.Bytes.{Bytes, blank, all}
 use Rattle.lines.specs.Trim.{trimStart, trimEnd, trimmed}
 use Rattle.lines.proofs.Bools.{by-cases, and-left, and-right, and-false, not-true}
+use Rattle.lines.proofs.Slices.{opened}
 
 -- ---- at the start
 
@@ -176,10 +176,6 @@ unfolding trimmed
 length-trim l = omega (arith, length-trimEnd (trimStart l), length-trimStart l)
 
 -- ---- a step of a loop over a text
-
--- the first byte of what is left, with the code's `at + 1`
-opened : (s : Bytes) (at : ℕ) → at < length s → drop at s ≡ getD s at 0 ∷ drop (at + 1) s
-opened s at h = rw add-one (drop-cons s at 0 h)
 
 -- the last byte of the bytes up to an index
 closed : (s : Bytes) (at : ℕ) → 0 < at → at ≤ length s → take at s ≡ take (at - 1) s ++ getD s (at - 1) 0 ∷ []
