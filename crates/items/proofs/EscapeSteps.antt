@@ -1,19 +1,18 @@
 -- Escapes: what one takes is there, and it gives at most one byte more than it takes behind its backslash.
 use mathlib.Core.Path.{_≡_, refl, sym, ap, subst, _∙_}
 use Prim.Native.Nat.{ℕ, zero, suc, _+_, _≤_, _<_}
-use native.Mathlib.Numerals.{add-one}
 use native.Mathlib.Omega.{arith}
 use mathlib.Core.Bool.{Bool, true, false, not, _&&_, cond}
 use mathlib.Core.Option.{Option, none, some}
 use mathlib.Core.List.{List, [], _∷_}
 use lib.Dec.{eqb, leb}
 use lib.ListN.{length, drop, getD, drop-of-length-le}
-use lib.Seq.{drop-cons}
 use borrow.Author.Tests.{leb-true, ne-eqb}
 use Rattle.lines.specs.Bytes.{Bytes, between}
 use Rattle.lines.specs.Utf8.{encoded}
 use Rattle.lines.specs.Answers.{Outcome, accepted, refused}
 use Rattle.lines.proofs.Bools.{by-cases, and-left, and-right}
+use Rattle.lines.proofs.Slices.{opened}
 use Rattle.items.specs.Escapes.{number, Escaped, codePoint, numeric, byteEscape, pointEscape, byteOf, letters, digitEscape, letterEscape, escape}
 use Rattle.items.specs.Steps.{letterMeans, fewBytes, escapeMeans, AtMostFour, EscapeIs, ErrorOf}
 use Rattle.items.specs.Answers.{numberOf, placeOf}
@@ -125,17 +124,14 @@ module _ (at : ℕ) (s : Bytes) where
   no-escape h = rw (drop-of-length-le s h)
 
   module _ (h : at + 1 < length s) (b : ℕ) (l : letterMeans b ≡ byteOf letters (getD s (at + 1) 0)) where
-    opened : drop (at + 1) s ≡ getD s (at + 1) 0 ∷ drop (at + 1 + 1) s
-    opened = rw (add-one (at + 1)) (drop-cons s (at + 1) 0 h)
-
     pub by-letter : (b ≡ 0 → ⊥) → escape at (drop (at + 1) s) ≡ accepted (record { bytes = b ∷ []; taken = 1 })
     unfolding escape letterEscape
     by-letter z =
         let e : byteOf letters (getD s (at + 1) 0) ≡ some b = sym l ∙ rw (ne-eqb b 0 z) in
-        rw (opened, e)
+        rw (opened s (at + 1) h, e)
 
     pub by-digits : b ≡ 0 → (u : Bytes) → u ≡ drop (at + 1) s → digitEscape at (getD u 0 0) (drop 1 u) ≡ escape at (drop (at + 1) s)
     unfolding escape letterEscape
     by-digits z u q =
         let e : byteOf letters (getD s (at + 1) 0) ≡ none = sym l ∙ rw z in
-        rw (q, opened, e)
+        rw (q, opened s (at + 1) h, e)

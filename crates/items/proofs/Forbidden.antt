@@ -1,14 +1,13 @@
 -- The first byte that a text to split may not have: the loop that looks for it, and what its offset tells.
 use mathlib.Core.Path.{_≡_, refl, sym, ap, _∙_}
 use Prim.Native.Nat.{ℕ, suc, _+_, _≤_, _<_}
-use native.Mathlib.Numerals.{add-one}
 use native.Mathlib.Omega.{arith}
 use mathlib.Core.Bool.{true, false}
 use mathlib.Core.List.{[], _∷_}
 use lib.ListN.{length, drop, getD, drop-of-length-le}
-use lib.Seq.{drop-cons}
 use Rattle.lines.specs.Bytes.{Bytes, any}
 use Rattle.lines.proofs.Bools.{by-cases}
+use Rattle.lines.proofs.Slices.{opened}
 use Rattle.items.specs.Split.{forbidden, firstForbidden}
 
 -- ---- the loop
@@ -24,19 +23,16 @@ module _ (t : Bytes) (i : ℕ) (e : firstForbidden t ≡ i + firstForbidden (dro
       omega arith
 
   module _ (h : i < length t) where
-    opened : drop i t ≡ getD t i 0 ∷ drop (i + 1) t
-    opened = rw add-one (drop-cons t i 0 h)
-
     pub first-found : forbidden (getD t i 0) ≡ true → i ≡ firstForbidden t
     unfolding firstForbidden
     first-found y =
-        let z : firstForbidden (drop i t) ≡ 0 = rw (opened, y) in
+        let z : firstForbidden (drop i t) ≡ 0 = rw (opened t i h, y) in
         omega arith
 
     pub first-more : forbidden (getD t i 0) ≡ false → firstForbidden t ≡ (i + 1) + firstForbidden (drop (i + 1) t)
     unfolding firstForbidden
     first-more n =
-        let z : firstForbidden (drop i t) ≡ suc (firstForbidden (drop (i + 1) t)) = rw (opened, n) in
+        let z : firstForbidden (drop i t) ≡ suc (firstForbidden (drop (i + 1) t)) = rw (opened t i h, n) in
         omega arith
 
 -- ---- what the offset tells

@@ -1,9 +1,10 @@
 -- The laws that specs/Laws.antt states, each by the module that proves it.
-use Rattle.items.specs.Laws.{SpelledSplits, SplitIsSpelled, RoundTrip, SameWritten, CutLaidAgain, LaidCutAgain}
+use Rattle.items.specs.Laws.{SpelledSplits, SplitIsSpelled, RoundTrip, SameWritten, CutLaidAgain, LaidCutAgain, WriteAccepted, AcceptedHas, EnoughSpace}
 use Rattle.items.proofs.SpelledItems.{spelled-splits}
 use Rattle.items.proofs.ItemsBack.{split-spelled}
 use Rattle.items.proofs.WrittenBack.{written-splits, same-written}
 use Rattle.items.proofs.LaidOut.{cut-laid-again, laid-cut-again}
+use Rattle.items.proofs.Verdicts.{write-accepted, accepted-has, enough-space}
 
 pub spelled-is-split : SpelledSplits
 spelled-is-split = spelled-splits
@@ -22,3 +23,12 @@ cut-is-laid-again = cut-laid-again
 
 pub laid-is-cut-again : LaidCutAgain
 laid-is-cut-again = laid-cut-again
+
+pub write-is-accepted : WriteAccepted
+write-is-accepted = write-accepted
+
+pub accepted-write-has : AcceptedHas
+accepted-write-has = accepted-has
+
+pub space-is-enough : EnoughSpace
+space-is-enough = enough-space

@@ -14,6 +14,8 @@ pub mod WrittenElements
 pub mod WrittenBack
 -- bytes and ends
 pub mod LaidOut
+-- the verdicts on calls
+pub mod Verdicts
 -- what specs/Laws.antt states
 pub mod Laws
 -- the bench cases

@@ -6,11 +6,12 @@ use native.Mathlib.Omega.{arith}
 use mathlib.Core.Bool.{Bool, true, false}
 use mathlib.Core.List.{List, [], _∷_}
 use lib.ListN.{length, drop, getD, drop-of-length-le, length-drop}
-use lib.Seq.{drop-cons, drop-drop, length-take-le}
+use lib.Seq.{drop-drop, length-take-le}
 use borrow.Author.Tests.{eq-eqb, ne-eqb}
 use Rattle.lines.specs.Bytes.{Bytes, blank}
 use Rattle.lines.specs.Answers.{accepted, refused}
 use Rattle.lines.proofs.Bools.{by-cases, neq-byte}
+use Rattle.lines.proofs.Slices.{opened}
 use Rattle.items.specs.Escapes.{Escaped, escape}
 use Rattle.items.specs.Pieces.{Piece, plain, escaped, offsetOf, blankPiece, backslash, quote, behind, piecesFrom}
 use Rattle.items.specs.Split.{item, refusal, withBytes, bareItem, closedItem, quotedItem, pastBlanks}
@@ -31,12 +32,9 @@ module _ (t : Bytes) (at : ℕ) where
   at-end h = rw (drop-of-length-le t h) (pieces-nil at)
 
   module _ (h : at < length t) where
-    opened : drop at t ≡ getD t at 0 ∷ drop (at + 1) t
-    opened = rw add-one (drop-cons t at 0 h)
-
     pub at-plain : backslash (getD t at 0) ≡ false → piecesAt t at ≡ plain at (getD t at 0) ∷ piecesAt t (at + 1)
     unfolding piecesAt
-    at-plain e = rw (opened, pieces-plain at (getD t at 0) (drop (at + 1) t) e, add-one)
+    at-plain e = rw (opened t at h, pieces-plain at (getD t at 0) (drop (at + 1) t) e, add-one)
 
     module _ (e : backslash (getD t at 0) ≡ true) where
       pub at-escape : (s : Escaped) → escape at (drop (at + 1) t) ≡ accepted s
@@ -44,11 +42,11 @@ module _ (t : Bytes) (at : ℕ) where
       unfolding piecesAt
       at-escape s q =
           let k : s .taken + suc at ≡ at + 1 + s .taken = omega arith in
-          rw (opened, pieces-escape at (getD t at 0) (drop (at + 1) t) s e q, drop-drop (s .taken) (at + 1) t, k)
+          rw (opened t at h, pieces-escape at (getD t at 0) (drop (at + 1) t) s e q, drop-drop (s .taken) (at + 1) t, k)
 
       pub at-refused : (n p : ℕ) → escape at (drop (at + 1) t) ≡ refused n p → piecesAt t at ≡ escaped at (refused n p) ∷ []
       unfolding piecesAt
-      at-refused n p q = rw (opened, pieces-refused at (getD t at 0) (drop (at + 1) t) n p e q)
+      at-refused n p q = rw (opened t at h, pieces-refused at (getD t at 0) (drop (at + 1) t) n p e q)
 
 -- ---- an escape in the rest of an item
 

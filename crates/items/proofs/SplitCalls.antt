@@ -22,6 +22,7 @@ use Rattle.items.specs.declared.splitter.SplitAnswer.{SplitAnswer}
 use Rattle.items.specs.declared.splitter.SplitAnswer.the-variants.{Accepted, Refused}
 use Rattle.items.proofs.Forbidden.{forbidden-there, none-forbidden}
 use Rattle.items.proofs.SplitLoop.{ends-length}
+use Rattle.items.proofs.Verdicts.{enough-space}
 
 -- ---- by way of buffers of its own
 
@@ -90,8 +91,7 @@ module _ (t bytes : Bytes) (ends : List ℕ) where
 
     module _ (he : 256 ≤ length ends) where
       enough : splitIn (length bytes) (length ends) t ≡ splitOf t
-      unfolding splitIn
-      enough = rw (le-ltb (length bytes) 4096 hb, le-ltb (length ends) 256 he)
+      enough = enough-space (length bytes) (length ends) t hb he
 
       pub too-long : 4096 < length t → Splits t bytes ends (Refused TextTooLong) bytes ends
       unfolding splitOf

@@ -1,17 +1,17 @@
 -- What is known of the definitions: statements, proved in proofs/Laws.antt.
 use mathlib.Core.Path.{_≡_}
 use Prim.Native.Nat.{ℕ, _≤_, _<_}
-use mathlib.Core.Bool.{Bool, true, false, not}
+use mathlib.Core.Bool.{true, false, not}
 use mathlib.Core.List.{List, [], _∷_, _++_}
 use lib.ListN.{length, take}
 use lib.Dec.{eqb}
-use Rattle.lines.specs.Bytes.{Bytes, between, blank, all}
+use Rattle.lines.specs.Bytes.{Bytes, between, blank, all, any}
 use Rattle.lines.specs.Answers.{accepted}
 use Rattle.lines.specs.Laws.{All}
 use Rattle.items.specs.Escapes.{escape}
 use Rattle.items.specs.Pieces.{backslash, quote}
-use Rattle.items.specs.Split.{forbidden, splitOf, bytesOf, endsFrom}
-use Rattle.items.specs.Write.{written, endsFit, itemsIn}
+use Rattle.items.specs.Split.{forbidden, splitOf, splitIn, bytesOf, endsFrom}
+use Rattle.items.specs.Write.{written, endsFit, itemsIn, nul, writeIn}
 
 -- ---- splitting, said once more: by the texts that are split
 
@@ -160,3 +160,26 @@ CutLaidAgain = (bs : Bytes) (ends : List ℕ) → endsFit 0 (length bs) ends ≡
 abbrev pub LaidCutAgain : Type 0
 LaidCutAgain = (xs : List Bytes)
     → (endsFit 0 (length (bytesOf xs)) (endsFrom 0 xs) ≡ true) × (itemsIn (bytesOf xs) (endsFrom 0 xs) ≡ xs)
+
+-- ---- the verdicts on calls
+
+-- the lent list is written where the buffer has room, the ends fit, and the items can be written
+abbrev pub WriteAccepted : Type 0
+WriteAccepted = (out : ℕ) (bs : Bytes) (ends : List ℕ) → 4096 ≤ out → endsFit 0 (length bs) ends ≡ true → Writable (itemsIn bs ends)
+    → writeIn out bs ends ≡ accepted (written (itemsIn bs ends))
+
+-- what an accepted list has, and what its text is
+pub record WriteHas (out : ℕ) (bs : Bytes) (ends : List ℕ) (t : Bytes) : Type 0 where
+  pub space : 4096 ≤ out
+  pub few : length ends ≤ 256
+  pub fit : endsFit 0 (length bs) ends ≡ true
+  pub no-nul : any nul (bytesOf (itemsIn bs ends)) ≡ false
+  pub text : t ≡ written (itemsIn bs ends)
+  pub short : length t ≤ 4096
+
+abbrev pub AcceptedHas : Type 0
+AcceptedHas = (out : ℕ) (bs : Bytes) (ends : List ℕ) (t : Bytes) → writeIn out bs ends ≡ accepted t → WriteHas out bs ends t
+
+-- with buffers that are long enough, a text is split as it is
+abbrev pub EnoughSpace : Type 0
+EnoughSpace = (b e : ℕ) (t : Bytes) → 4096 ≤ b → 256 ≤ e → splitIn b e t ≡ splitOf t

@@ -249,10 +249,10 @@ fn next_item(text: &[u8], more: usize, start: usize, buffer: &mut [u8], filled: 
     if more == 0 {
         return Step::Refused(Error::TooManyItems(at));
     }
-    let b = text[at];
-    if is_quote(b) {
+    let first = text[at];
+    if is_quote(first) {
         let mode = Mode::Quoted {
-            quote: b,
+            quote: first,
             opening: at,
         };
         return read_item(text, mode, at + 1, buffer, filled);

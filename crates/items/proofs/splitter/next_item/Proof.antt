@@ -22,8 +22,8 @@ returns-2 c = let a = c .before .before in
     let p = a .past-blanks .ensures in
     step-many (now (s .args .text)) (s .args .more) (s .args .start) _ p (omega arith) (c .if2 .taken)
 
-shared-slice-read-b : tie.Need-shared-slice-read-b
-shared-slice-read-b c = search needs
+shared-slice-read-first : tie.Need-shared-slice-read-first
+shared-slice-read-first c = search needs
 
 is-quote-requires : tie.Need-is-quote-requires
 is-quote-requires c κs = search needs
@@ -62,7 +62,7 @@ next-item-spec =
     past-blanks-requires
     returns
     returns-2
-    shared-slice-read-b
+    shared-slice-read-first
     is-quote-requires
     add-read-item
     read-item-requires
