@@ -1,0 +1,2 @@
+-- The demands, as statements about what calls leave behind.
+pub mod RoundTrip
