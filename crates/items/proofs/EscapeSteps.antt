@@ -1,4 +1,5 @@
--- Escapes: what one takes is there, and it gives at most one byte more than it takes behind its backslash.
+-- Escapes, as the code reads them: the numbers that are allowed; what one takes is there, and it gives at most one
+-- byte more than it takes behind its backslash; and the cases by the byte behind the backslash.
 use mathlib.Core.Path.{_≡_, refl, sym, ap, subst, _∙_}
 use Prim.Native.Nat.{ℕ, zero, suc, _+_, _≤_, _<_}
 use native.Mathlib.Omega.{arith}
@@ -7,7 +8,7 @@ use mathlib.Core.Option.{Option, none, some}
 use mathlib.Core.List.{List, [], _∷_}
 use lib.Dec.{eqb, leb}
 use lib.ListN.{length, drop, getD, drop-of-length-le}
-use borrow.Author.Tests.{leb-true, ne-eqb}
+use borrow.Author.Tests.{leb-true, le-leb, lt-leb, ne-eqb}
 use Rattle.lines.specs.Bytes.{Bytes, between}
 use Rattle.lines.specs.Utf8.{encoded}
 use Rattle.lines.specs.Answers.{Outcome, accepted, refused}
@@ -24,6 +25,40 @@ use Rattle.items.specs.declared.escapes.Escape.the-variants.{Bytes as Es
 pub point-below : (v : ℕ) → codePoint v ≡ true → v ≤ 0x10FFFF
 point-below v h =
     leb-true v 0x10FFFF (and-right (leb 1 v) (leb v 0x10FFFF) (and-left (between 1 0x10FFFF v) (not (between 0xD800 0xDFFF v)) h))
+
+-- ---- the numbers that are allowed
+
+pub point-zero : (v : ℕ) → v < 1 → false ≡ codePoint v
+point-zero v h = rw (lt-leb 1 v h)
+
+module _ (v : ℕ) (low : 1 ≤ v) where
+  pub point-above : 0x10FFFF < v → false ≡ codePoint v
+  point-above h = rw (le-leb 1 v low, lt-leb v 0x10FFFF h)
+
+  module _ (high : v ≤ 0x10FFFF) where
+    pub point-before : v < 0xD800 → true ≡ codePoint v
+    point-before h = rw (le-leb 1 v low, le-leb v 0x10FFFF high, lt-leb 0xD800 v h)
+
+    pub point-surrogate : 0xD800 ≤ v → v ≤ 0xDFFF → false ≡ codePoint v
+    point-surrogate h k = rw (le-leb 1 v low, le-leb v 0x10FFFF high, le-leb 0xD800 v h, le-leb v 0xDFFF k)
+
+    pub point-behind : 0xD800 ≤ v → 0xDFFF < v → true ≡ codePoint v
+    point-behind h k = rw (le-leb 1 v low, le-leb v 0x10FFFF high, le-leb 0xD800 v h, lt-leb v 0xDFFF k)
+
+module _ (taken at v : ℕ) where
+  pub byte-zero : v < 1 → refused 25 at ≡ byteEscape taken at (some v)
+  unfolding numeric
+  byte-zero h = rw (lt-leb 1 v h)
+
+  pub byte-above : 1 ≤ v → 0xFF < v → refused 25 at ≡ byteEscape taken at (some v)
+  unfolding numeric
+  byte-above l h = rw (le-leb 1 v l, lt-leb v 0xFF h)
+
+  pub byte-given : 1 ≤ v → v ≤ 0xFF → accepted (record { bytes = v ∷ []; taken = taken }) ≡ byteEscape taken at (some v)
+  unfolding numeric
+  byte-given l h = rw (le-leb 1 v l, le-leb v 0xFF h)
+
+-- ---- sizes
 
 -- a number of n digits takes n bytes
 number-there : (base n : ℕ) (t : Bytes) (v : ℕ) → number base n t ≡ some v → n ≤ length t

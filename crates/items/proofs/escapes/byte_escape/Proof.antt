@@ -1,11 +1,10 @@
 -- `byte_escape`: the form is judged first, then the number.
 use mathlib.Core.Path.{ap, _∙_}
-use mathlib.Core.List.{[], _∷_}
-use borrow.Author.Tests.{le-leb, lt-leb}
 use native.Mathlib.Omega.{arith}
 use Rattle.lines.specs.Bytes.{Bytes}
 use Rattle.lines.specs.Answers.{accepted}
 use Rattle.items.specs.Escapes.{numeric}
+use Rattle.items.proofs.EscapeSteps.{byte-zero, byte-above, byte-given}
 use borrow.Author.Needs.{needs}
 use Rattle.items.proofs.escapes.byte_escape.Statement.{statement}
 use Rattle.items.proofs.escapes.byte_escape.Tie as tie
@@ -21,12 +20,10 @@ unfolding numeric
 returns c = record { means = rw (c .enum-told .given .1); short = tt }
 
 returns-2 : tie.Need-returns-2
-unfolding numeric
-returns-2 c = record { means = rw (c .before .before .n .given .1, lt-leb _ _ (c .if1 .taken)); short = tt }
+returns-2 c = record { means = rw (c .before .before .n .given .1) (byte-zero _ _ _ (c .if1 .taken)); short = tt }
 
 returns-3 : tie.Need-returns-3
-unfolding numeric
-returns-3 c = record { means = rw (c .before .before .before .n .given .1, le-leb _ _ (c .before .if1 .left), lt-leb _ _ (c .if2 .taken)); short = tt }
+returns-3 c = record { means = rw (c .before .before .before .n .given .1) (byte-above _ _ _ (c .before .if1 .left) (c .if2 .taken)); short = tt }
 
 cast-one : tie.Need-cast-one
 cast-one c = search needs
@@ -35,10 +32,9 @@ one-requires : tie.Need-one-requires
 one-requires c κs = search needs
 
 returns-4 : tie.Need-returns-4
-unfolding numeric
 returns-4 c = let n = c .before .before .before .before in
     record {
-      means = rw (n .n .given .1, le-leb _ _ (c .before .before .if1 .left), le-leb _ _ (c .before .if2 .left)) (ap (λ (bs : Bytes). accepted (record { bytes = bs; taken = c .before .before .before .before .before .before .args .taken })) (c .one .ensures .0));
+      means = rw (n .n .given .1) (ap (λ (bs : Bytes). accepted (record { bytes = bs; taken = n .before .before .args .taken })) (c .one .ensures .0) ∙ byte-given _ _ _ (c .before .before .if1 .left) (c .before .if2 .left));
       short = omega arith;
     }
 
