@@ -1,5 +1,6 @@
 #!/usr/bin/env python3
-"""Writes what the programs are to print: those on lines from here, those on values from expected_values.py.
+"""Writes what the programs are to print: those on lines from here, those on values from expected_values.py, those on
+items from expected_items.py.
 
 usage: expected.py [--check]      (--check: only compare with the files that stand)
 
@@ -12,6 +13,7 @@ import re
 import sys
 
 sys.dont_write_bytecode = True  # leaves no __pycache__ in the repository
+import expected_items
 import expected_values
 
 ROOT = os.path.dirname(os.path.dirname(os.path.abspath(__file__)))
@@ -356,6 +358,7 @@ def main():
         'line_cases/stdout': told(FILES, listed, HAND_FILES) + told(CALLS, one_call, HAND_CALLS),
         'check_cases/stdout': told(CHECKS, listed, HAND_FILES) + told(TEXTS, started, HAND_TEXTS),
         **expected_values.outputs(),
+        **expected_items.outputs(),
     }
     assert outputs['logical/stdout'] == HAND_EXAMPLE
     assert not HAND_FILES and not HAND_TEXTS and not HAND_CALLS
