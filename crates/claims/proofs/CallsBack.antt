@@ -2,28 +2,25 @@
 use mathlib.Core.Path.{_≡_, refl, sym, ap, subst, _∙_}
 use Prim.Native.Nat.{ℕ, _-_, _≤_, _<_}
 use native.Mathlib.Omega.{arith}
-use mathlib.Core.Bool.{Bool, true, false, cond, _||_}
 use mathlib.Core.List.{List}
-use lib.Dec.{ltb}
 use lib.ListN.{length, take, getD}
 use borrow.Author.Tests.{lt-ltb, le-ltb}
 use Rattle.lines.specs.Bytes.{Bytes}
 use Rattle.lines.specs.Answers.{Outcome, accepted, refused}
 use Rattle.lines.specs.Buffers.{filled}
 use Rattle.lines.proofs.Buffers.{take-filled, length-filled}
-use Rattle.items.specs.Split.{splitIn, bytesOf, endsFrom}
 use Rattle.items.specs.Write.{written, itemsIn, writeIn}
-use Rattle.items.specs.Answers.{Counts, numberOf, placeOf, errorMeans, splitMeans, counted, bytesAfter, endsAfter, Splits}
-use Rattle.items.specs.Laws.{LaidAgain, lastEnd, WriteHas}
+use Rattle.items.specs.Answers.{numberOf, placeOf, counted, bytesAfter, endsAfter, Splits}
+use Rattle.items.specs.Laws.{LaidAgain, WriteHas}
 use Rattle.items.specs.declared.error.Error.{Error}
 use Rattle.items.specs.declared.error.Error.the-variants.{ShortBuffer}
 use Rattle.items.specs.declared.splitter.SplitAnswer.{SplitAnswer}
-use Rattle.items.specs.declared.splitter.SplitAnswer.the-variants.{Accepted, Refused}
+use Rattle.items.specs.declared.splitter.SplitAnswer.the-variants.{Refused}
 use Rattle.items.proofs.Laws.{cut-is-laid-again, write-is-accepted, accepted-write-has}
 use Rattle.item_writer.specs.Answers.{writeMeans, measured, textAfter, Writes}
 use Rattle.item_writer.specs.declared.writer.WriteAnswer.{WriteAnswer}
 use Rattle.item_writer.specs.declared.writer.WriteAnswer.the-variants.{Accepted as WriteAccepted, Refused as WriteRefused}
-use Rattle.claims.specs.RoundTrip.{Lent, Written, WriteAccepts, Back, SplitComesBack, tripIn, tripCounts, bytesBack, endsBack, Trip, ErrorOf}
+use Rattle.claims.specs.RoundTrip.{Lent, WriteAccepts, Back, SplitComesBack, tripIn, tripCounts, bytesBack, endsBack, Trip, ErrorOf}
 use Rattle.claims.proofs.ListBack.{accepted-lent, text-splits, length-back}
 
 -- ---- from what the calls promise

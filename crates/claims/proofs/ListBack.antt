@@ -1,20 +1,19 @@
 -- A lent list whose items are bytes without NUL is one that can be written; and what splitting its text gives.
-use mathlib.Core.Path.{_≡_, refl, sym, ap, subst, _∙_}
+use mathlib.Core.Path.{_≡_, refl, sym, ap, _∙_}
 use Prim.Native.Nat.{ℕ, suc, _≤_, _<_}
 use native.Mathlib.Omega.{arith}
-use mathlib.Core.Bool.{Bool, true, false, not, _&&_}
-use mathlib.Core.List.{List, [], _∷_, _++_}
+use mathlib.Core.Bool.{Bool, true, false, not}
+use mathlib.Core.List.{List, [], _∷_}
 use lib.Dec.{eqb, leb}
 use lib.ListN.{length, take, drop, getD, take-append-drop}
 use lib.Seq.{length-take-le}
 use borrow.Author.Tests.{le-leb, eqb-false}
-use Rattle.lines.specs.Bytes.{Bytes, between, all, any}
+use Rattle.lines.specs.Bytes.{Bytes, between, all}
 use Rattle.lines.specs.Answers.{accepted}
-use Rattle.lines.proofs.Bools.{by-cases, both, and-left, and-right, not-true, any-all, all-append, all-imp}
-use Rattle.items.specs.Split.{splitOf, splitIn, bytesOf, endsFrom}
-use Rattle.items.specs.Write.{written, itemsIn, nul, writeIn}
-use Rattle.items.specs.Answers.{counted}
-use Rattle.items.specs.Laws.{Writable, LaidAgain, WriteHas, lastEnd}
+use Rattle.lines.proofs.Bools.{both, and-left, and-right, not-true, any-all, all-append}
+use Rattle.items.specs.Split.{splitIn, bytesOf}
+use Rattle.items.specs.Write.{written, itemsIn, nul}
+use Rattle.items.specs.Laws.{LaidAgain, WriteHas, lastEnd}
 use Rattle.items.proofs.Laws.{round-trip, cut-is-laid-again, space-is-enough}
 use Rattle.claims.specs.RoundTrip.{Lent}
 

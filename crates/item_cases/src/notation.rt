@@ -20,12 +20,12 @@ pub(crate) fn line_end(text: &[u8], at: usize) -> usize
 }
 
 // The byte at an index, 0 behind the end.
-pub fn byte_at(text: &[u8], i: usize) -> u8 {
+pub(crate) fn byte_at(text: &[u8], i: usize) -> u8 {
     if i < text.len() { text[i] } else { 0 }
 }
 
 // What stands behind the first `n` bytes.
-pub fn behind(text: &[u8], n: usize) -> &[u8] {
+pub(crate) fn behind(text: &[u8], n: usize) -> &[u8] {
     if n <= text.len() {
         return &text[n..];
     }
@@ -34,7 +34,7 @@ pub fn behind(text: &[u8], n: usize) -> &[u8] {
 
 // ---- numbers
 
-pub struct Number {
+pub(crate) struct Number {
     pub value: usize,
     // How many bytes it takes.
     pub taken: usize,
@@ -64,7 +64,7 @@ fn longer(value: usize, digit: u8) -> usize {
 }
 
 // The number that a text starts with.
-pub fn read_number(text: &[u8]) -> Number
+pub(crate) fn read_number(text: &[u8]) -> Number
     ensures { λ r. ⌜ r .taken ≤ length (now (text .entry)) ⌝ }
 {
     let mut value = 0;
@@ -82,7 +82,7 @@ pub fn read_number(text: &[u8]) -> Number
 
 // Numbers up to the end of a line, each behind a space. Answers how many, or the largest number where the line makes
 // no sense or there are too many.
-pub fn lay_numbers(line: &[u8], numbers: &mut [usize]) -> usize {
+pub(crate) fn lay_numbers(line: &[u8], numbers: &mut [usize]) -> usize {
     let mut at = 0;
     let mut count = 0;
     while at < line.len() {
@@ -176,7 +176,7 @@ fn read_run(text: &[u8], byte: u8) -> Piece
     no_piece()
 }
 
-pub struct Laid {
+pub(crate) struct Laid {
     pub length: usize,
     // How many bytes of the line it takes, 0 where they make no sense or the buffer is too small.
     pub taken: usize,
@@ -190,7 +190,7 @@ fn nothing() -> Laid {
 }
 
 // Lays bytes in square brackets into a buffer.
-pub fn lay_bytes(line: &[u8], buffer: &mut [u8]) -> Laid {
+pub(crate) fn lay_bytes(line: &[u8], buffer: &mut [u8]) -> Laid {
     if byte_at(line, 0) != b'[' {
         return nothing();
     }

@@ -6,25 +6,25 @@ ghost use Prim.Native.Nat.{_≤_, _<_};
 ghost use lib.ListN.{length};
 
 // The buffers are full of these before a call.
-pub const BYTE: u8 = 0xA5;
+pub(crate) const BYTE: u8 = 0xA5;
 
-pub const NUMBER: usize = 99999;
+pub(crate) const NUMBER: usize = 99999;
 
-pub fn bad_case() {
+pub(crate) fn bad_case() {
     print(b"bad case\n");
 }
 
 // ---- parts of a buffer
 
 // The first bytes of a buffer, all of them where it has fewer.
-pub fn front(buffer: &[u8], count: usize) -> &[u8] {
+pub(crate) fn front(buffer: &[u8], count: usize) -> &[u8] {
     if count <= buffer.len() {
         return &buffer[0..count];
     }
     buffer
 }
 
-pub fn front_numbers(buffer: &[usize], count: usize) -> &[usize] {
+pub(crate) fn front_numbers(buffer: &[usize], count: usize) -> &[usize] {
     if count <= buffer.len() {
         return &buffer[0..count];
     }
@@ -34,7 +34,7 @@ pub fn front_numbers(buffer: &[usize], count: usize) -> &[usize] {
 // ---- bytes and numbers
 
 // Bytes in square brackets.
-pub fn print_bytes(text: &[u8]) {
+pub(crate) fn print_bytes(text: &[u8]) {
     print(b"[");
     let mut at = 0;
     while at < text.len() {
@@ -91,7 +91,7 @@ fn print_byte(byte: u8) {
 }
 
 // Numbers, each with a space behind it.
-pub fn print_numbers(numbers: &[usize]) {
+pub(crate) fn print_numbers(numbers: &[usize]) {
     for i in 0..numbers.len() {
         print_number(numbers[i]);
         print(b" ");
@@ -101,7 +101,7 @@ pub fn print_numbers(numbers: &[usize]) {
 // ---- what a call left
 
 // Whether the bytes from an index on are as they were.
-pub fn bytes_kept(buffer: &[u8], from: usize) -> bool {
+pub(crate) fn bytes_kept(buffer: &[u8], from: usize) -> bool {
     for i in from..buffer.len() {
         if buffer[i] != BYTE {
             return false;
@@ -110,7 +110,7 @@ pub fn bytes_kept(buffer: &[u8], from: usize) -> bool {
     true
 }
 
-pub fn numbers_kept(buffer: &[usize], from: usize) -> bool {
+pub(crate) fn numbers_kept(buffer: &[usize], from: usize) -> bool {
     for i in from..buffer.len() {
         if buffer[i] != NUMBER {
             return false;
@@ -119,7 +119,7 @@ pub fn numbers_kept(buffer: &[usize], from: usize) -> bool {
     true
 }
 
-pub fn print_kept(kept: bool) {
+pub(crate) fn print_kept(kept: bool) {
     if kept {
         print(b"kept, ");
     } else {

@@ -7,7 +7,7 @@ use listing::print_number;
 use listing::print_refused;
 
 // What stands behind `split ` in a line.
-pub fn case(line: &[u8], buffer: &mut [u8]) {
+pub(crate) fn case(line: &[u8], buffer: &mut [u8]) {
     let size = notation::read_number(line);
     let rest = notation::behind(line, size.taken);
     let count = notation::read_number(notation::behind(rest, 1));

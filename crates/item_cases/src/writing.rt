@@ -8,7 +8,7 @@ use listing::print_number;
 use listing::print_refused;
 
 // What stands behind `write ` in a line.
-pub fn case(line: &[u8], buffer: &mut [u8]) {
+pub(crate) fn case(line: &[u8], buffer: &mut [u8]) {
     let size = notation::read_number(line);
     let rest = notation::behind(notation::behind(line, size.taken), 1);
     let bytes = notation::lay_bytes(rest, buffer);

@@ -1,17 +1,14 @@
 -- Ends that fit never fall; and what the last end is.
-use mathlib.Core.Path.{_≡_, refl, _∙_}
-use Prim.Native.Nat.{ℕ, suc, _+_, _-_, _≤_, _<_}
+use mathlib.Core.Path.{_≡_, refl}
+use Prim.Native.Nat.{ℕ, suc, _-_, _≤_, _<_}
 use native.Mathlib.Omega.{arith}
 use mathlib.Core.Bool.{true, _&&_}
 use mathlib.Core.List.{List, [], _∷_}
-use lib.ListN.{length, take, drop, getD}
-use lib.Seq.{take-add, drop-drop}
+use lib.ListN.{length, getD}
 use lib.Dec.{leb}
 use borrow.Author.Tests.{leb-true}
-use Rattle.lines.specs.Bytes.{Bytes}
 use Rattle.lines.proofs.Bools.{and-left, and-right}
-use Rattle.items.specs.Split.{bytesOf}
-use Rattle.items.specs.Write.{endsFit, cutFrom}
+use Rattle.items.specs.Write.{endsFit}
 use Rattle.items.specs.Laws.{lastEnd}
 
 -- what is known of the first end

@@ -5,7 +5,7 @@ use Prim.Native.Nat.{ℕ, zero, suc, _+_, _*_, _^_, _≤_, _<_}
 use native.Mathlib.Nat.{pow-zero, mul-one, pow-suc, mul-assoc, add-mul, mul-le-mul-left, pow-le-pow-right}
 use native.Mathlib.Numerals.{add-one}
 use native.Mathlib.Omega.{arith}
-use mathlib.Core.Bool.{Bool, true, false, _&&_}
+use mathlib.Core.Bool.{Bool, true, false}
 use mathlib.Core.Option.{none, some}
 use mathlib.Core.List.{[], _∷_, _++_}
 use lib.Arith.{digits-lt}
@@ -14,7 +14,7 @@ use lib.ListN.{length, take, getD, length-append}
 use lib.Seq.{take-suc}
 use borrow.Author.Tests.{lt-ltb, le-ltb, le-leb, lt-leb}
 use Rattle.lines.specs.Bytes.{Bytes, all}
-use Rattle.lines.proofs.Bools.{by-cases, all-append, and-false}
+use Rattle.lines.proofs.Bools.{all-append, and-false}
 use Rattle.items.specs.Escapes.{digitValue, digitOf, value, number}
 
 -- m · b^(n+1) is b times m · b^n

@@ -1,7 +1,7 @@
 -- An item read into a buffer, piece after piece. What the loop keeps: the bytes read so far stand in the buffer,
 -- and the item is these bytes before the rest from the offset on.
 use mathlib.Core.Path.{_≡_, refl, sym, ap, subst, _∙_}
-use Prim.Native.Nat.{ℕ, _+_, _≤_, _<_}
+use Prim.Native.Nat.{ℕ, _+_, _≤_}
 use native.Mathlib.Nat.{add-zero}
 use native.Mathlib.Omega.{arith}
 use mathlib.Core.List.{List, [], _∷_, _++_, append-assoc, append-nil}

@@ -1,6 +1,6 @@
 -- The pieces of a text, one after the other: what stands for itself, an escape, a refused escape, the end.
 -- The bytes that an escape takes are passed over.
-use mathlib.Core.Path.{_≡_, refl, sym, ap, _∙_}
+use mathlib.Core.Path.{_≡_, refl, ap, _∙_}
 use Prim.Native.Nat.{ℕ, zero, suc, _+_}
 use native.Mathlib.Nat.{zero-add}
 use native.Mathlib.Omega.{arith}
@@ -10,7 +10,7 @@ use lib.ListN.{drop}
 use Rattle.lines.specs.Bytes.{Bytes}
 use Rattle.lines.specs.Answers.{accepted, refused}
 use Rattle.items.specs.Escapes.{Escaped, escape}
-use Rattle.items.specs.Pieces.{plain, escaped, backslash, behind, piecesFrom}
+use Rattle.items.specs.Pieces.{plain, escaped, backslash, piecesFrom}
 
 pub pieces-passed : (k at : ℕ) (t : Bytes) → piecesFrom k at t ≡ piecesFrom 0 (k + at) (drop k t)
 unfolding piecesFrom

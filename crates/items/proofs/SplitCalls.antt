@@ -1,20 +1,20 @@
 -- A call of `split`, by its answer: each refusal, and the items that were read and copied.
-use mathlib.Core.Path.{_≡_, refl, sym, ap, subst, _∙_}
+use mathlib.Core.Path.{_≡_, sym, ap, subst, _∙_}
 use Prim.Native.Nat.{ℕ, _+_, _-_, _≤_, _<_}
 use native.Mathlib.Nat.{zero-add}
 use native.Mathlib.Omega.{arith}
-use mathlib.Core.Bool.{true, false, cond, _||_}
-use mathlib.Core.List.{List, [], _∷_, _++_}
+use mathlib.Core.Bool.{cond}
+use mathlib.Core.List.{List}
 use lib.Dec.{leb}
 use lib.ListN.{length, take, length-take}
 use borrow.Author.Tests.{lt-ltb, le-ltb, le-leb}
-use Rattle.lines.specs.Bytes.{Bytes, any}
-use Rattle.lines.specs.Answers.{Outcome, accepted, refused}
+use Rattle.lines.specs.Bytes.{Bytes}
+use Rattle.lines.specs.Answers.{Outcome, refused}
 use Rattle.lines.specs.Buffers.{put, filled}
 use Rattle.lines.proofs.Buffers.{take-filled}
 use Rattle.items.specs.Pieces.{pieces}
-use Rattle.items.specs.Split.{forbidden, firstForbidden, itemsOf, splitOf, splitIn, bytesOf, endsFrom}
-use Rattle.items.specs.Answers.{numberOf, placeOf, Counts, splitMeans, counted, bytesAfter, endsAfter, Splits}
+use Rattle.items.specs.Split.{firstForbidden, itemsOf, splitOf, splitIn, bytesOf, endsFrom}
+use Rattle.items.specs.Answers.{numberOf, placeOf, splitMeans, counted, bytesAfter, endsAfter, Splits}
 use Rattle.items.specs.Steps.{AllRead, ReadAll, SplitInto}
 use Rattle.items.specs.declared.error.Error.{Error}
 use Rattle.items.specs.declared.error.Error.the-variants.{ShortBuffer, TextTooLong, ForbiddenByte}

@@ -1,17 +1,17 @@
 -- Items read one after another. What the loop keeps: the items read so far stand in the buffers, and the items of
 -- the text are these before those from the offset on.
-use mathlib.Core.Path.{_≡_, refl, sym, ap, subst, _∙_}
+use mathlib.Core.Path.{_≡_, refl, sym, ap, _∙_}
 use Prim.Native.Nat.{ℕ, zero, suc, _+_, _-_, _≤_, _<_}
-use native.Mathlib.Nat.{add-zero, zero-add}
+use native.Mathlib.Nat.{add-zero}
 use native.Mathlib.Omega.{arith}
 use mathlib.Core.List.{List, [], _∷_, _++_, append-assoc, append-nil}
-use lib.ListN.{length, drop, set, length-append, length-set}
+use lib.ListN.{length, set, length-append, length-set}
 use Rattle.lines.specs.Bytes.{Bytes}
 use Rattle.lines.specs.Answers.{Outcome, accepted, refused}
 use Rattle.lines.specs.Buffers.{put, filled}
-use Rattle.lines.proofs.Buffers.{filled-put, filled-snoc, filled-nil}
+use Rattle.lines.proofs.Buffers.{filled-put, filled-snoc}
 use Rattle.items.specs.Pieces.{Piece, pieces}
-use Rattle.items.specs.Split.{item, end, refusal, begun, step, pastBlanks, withItem, collected, itemsOf, bytesOf, endsFrom}
+use Rattle.items.specs.Split.{item, end, refusal, begun, step, pastBlanks, withItem, itemsOf, bytesOf, endsFrom}
 use Rattle.items.specs.Steps.{piecesAt, ItemRead, AllRead}
 
 -- ---- the items of pieces, by a step

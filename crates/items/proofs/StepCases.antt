@@ -1,5 +1,5 @@
 -- A reading step, by what stands behind the blanks.
-use mathlib.Core.Path.{_≡_, refl, sym, ap, subst, _∙_}
+use mathlib.Core.Path.{_≡_, refl, sym, subst, _∙_}
 use Prim.Native.Nat.{ℕ, suc, _+_, _-_, _≤_, _<_}
 use native.Mathlib.Omega.{arith}
 use mathlib.Core.Bool.{true, false}
@@ -7,7 +7,7 @@ use lib.ListN.{length, getD}
 use Rattle.lines.specs.Bytes.{Bytes}
 use Rattle.lines.proofs.Bools.{by-cases}
 use Rattle.items.specs.Pieces.{backslash, quote}
-use Rattle.items.specs.Split.{end, refusal, bareItem, quotedItem, itemAt, pastBlanks, begun, step}
+use Rattle.items.specs.Split.{end, refusal, itemAt, pastBlanks, begun, step}
 use Rattle.items.specs.Split as split
 use Rattle.items.specs.Steps.{piecesAt, restOf, BlanksPassed, StepTaken}
 use Rattle.items.specs.declared.splitter.Mode.the-variants.{Bare, Quoted}

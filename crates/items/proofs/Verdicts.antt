@@ -1,19 +1,18 @@
 -- The verdicts on whole calls: when a lent list is written, what an accepted one has, and when a text is split. Each
 -- goes by the tests in their order.
-use mathlib.Core.Path.{_≡_, refl, sym, ap, _∙_}
-use Prim.Native.Nat.{ℕ, _≤_, _<_}
+use mathlib.Core.Path.{_≡_, refl, ap, _∙_}
+use Prim.Native.Nat.{ℕ, _≤_}
 use native.Mathlib.Omega.{arith}
-use mathlib.Core.Bool.{Bool, true, false, not, _&&_, _||_, cond}
-use mathlib.Core.List.{List, [], _∷_}
-use lib.Dec.{eqb, leb, ltb}
+use mathlib.Core.Bool.{Bool, true, false, not, cond}
+use lib.Dec.{leb, ltb}
 use lib.ListN.{length}
 use borrow.Author.Tests.{le-ltb, ltb-false, leb-true, ne-eqb, not-false}
 use Rattle.lines.specs.Bytes.{Bytes, between, all, any}
 use Rattle.lines.specs.Answers.{Outcome, accepted, refused}
-use Rattle.lines.proofs.Bools.{by-cases, and-left, and-right, is-false, any-all, all-imp, not-true, clash}
-use Rattle.items.specs.Split.{bytesOf, splitOf, splitIn}
+use Rattle.lines.proofs.Bools.{and-left, any-all, all-imp, clash}
+use Rattle.items.specs.Split.{bytesOf, splitIn}
 use Rattle.items.specs.Write.{written, endsFit, itemsIn, nul, writeIn}
-use Rattle.items.specs.Laws.{Writable, LaidAgain, WriteAccepted, WriteHas, AcceptedHas, EnoughSpace}
+use Rattle.items.specs.Laws.{LaidAgain, WriteAccepted, AcceptedHas, EnoughSpace}
 use Rattle.items.proofs.LaidOut.{cut-laid-again}
 
 pub enough-space : EnoughSpace

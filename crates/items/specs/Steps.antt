@@ -1,7 +1,7 @@
 -- What the functions inside the crate promise: escapes, and the steps of reading an item into a buffer.
 use mathlib.Core.Path.{_≡_}
-use Prim.Native.Nat.{ℕ, _+_, _-_, _≤_, _<_}
-use mathlib.Core.Bool.{Bool, false, cond}
+use Prim.Native.Nat.{ℕ, _+_, _≤_, _<_}
+use mathlib.Core.Bool.{false, cond}
 use mathlib.Core.Option.{Option, none, some}
 use mathlib.Core.List.{List, [], _∷_}
 use lib.ListN.{length, take, drop, getD}
@@ -9,7 +9,7 @@ use lib.Dec.{eqb}
 use Rattle.lines.specs.Bytes.{Bytes, blank}
 use Rattle.lines.specs.Answers.{Outcome, accepted}
 use Rattle.lines.specs.Buffers.{put, filled}
-use Rattle.items.specs.Escapes.{Escaped, escape}
+use Rattle.items.specs.Escapes.{Escaped}
 use Rattle.items.specs.Pieces.{piecesFrom}
 use Rattle.items.specs.Pieces as pieces
 use Rattle.items.specs.Split.{item, end, refusal, withBytes, bareItem, quotedItem, closedItem, pastBlanks, bytesOf, endsFrom}

@@ -1,7 +1,6 @@
 -- `read_items`: the loop keeps `Collecting`; its items are those of `next_item`.
 use Prim.Native.Nat.{_-_}
 use native.Mathlib.Omega.{arith}
-use lib.ListN.{length-set}
 use denote.Ref.{now}
 use Rattle.items.proofs.StepCases.{step-known}
 use Rattle.items.proofs.SplitLoop.{Collecting, collecting-start, collecting-end, collecting-refused, place-left, collecting-more}

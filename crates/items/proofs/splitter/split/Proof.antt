@@ -1,5 +1,4 @@
 -- `split`: each refusal in its order, and then the items.
-use native.Mathlib.Omega.{arith}
 use denote.Ref.{now}
 use Rattle.items.proofs.SplitCalls.{short-bytes, short-ends, too-long, forbidden-byte, split-apart}
 use borrow.Author.Needs.{needs}
