@@ -12,8 +12,8 @@ use Rattle.lines.specs.Bytes.{Bytes, between, all}
 use Rattle.lines.specs.Answers.{accepted}
 use Rattle.lines.proofs.Bools.{both, and-left, and-right, not-true, any-all, all-append}
 use Rattle.items.specs.Split.{splitIn, bytesOf}
-use Rattle.items.specs.Write.{written, itemsIn, nul}
-use Rattle.items.specs.Laws.{LaidAgain, WriteHas, lastEnd}
+use Rattle.items.specs.Write.{written, itemsIn, nul, lastEnd}
+use Rattle.items.specs.Laws.{LaidAgain, WriteHas}
 use Rattle.items.proofs.Laws.{round-trip, cut-is-laid-again, space-is-enough}
 use Rattle.claims.specs.RoundTrip.{Lent}
 

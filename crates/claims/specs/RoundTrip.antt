@@ -8,9 +8,9 @@ use lib.ListN.{length, take}
 use Rattle.lines.specs.Bytes.{Bytes}
 use Rattle.lines.specs.Answers.{Outcome, accepted, refused}
 use Rattle.lines.specs.Buffers.{filled}
-use Rattle.items.specs.Write.{written, endsFit, itemsIn, writeIn}
+use Rattle.items.specs.Write.{written, endsFit, itemsIn, writeIn, lastEnd}
 use Rattle.items.specs.Answers.{Counts, splitMeans, Splits}
-use Rattle.items.specs.Laws.{Writable, lastEnd}
+use Rattle.items.specs.Laws.{Writable}
 use Rattle.items.specs.declared.splitter.SplitAnswer.{SplitAnswer}
 use Rattle.item_writer.specs.Answers.{writeMeans, textAfter, Writes}
 use Rattle.item_writer.specs.declared.writer.WriteAnswer.{WriteAnswer}
@@ -25,13 +25,13 @@ pub record Lent (bytes : Bytes) (ends : List ℕ) : Type 0 where
   pub writable : Writable (itemsIn bytes ends)
 
 -- The write call is accepted, and the written form stands at the front of its buffer, as long as it says.
-pub record Written (bytes : Bytes) (ends : List ℕ) (w : WriteAnswer) (out' : Bytes) : Type 0 where
+pub record WriteLeaves (bytes : Bytes) (ends : List ℕ) (w : WriteAnswer) (out' : Bytes) : Type 0 where
   pub accepted-with : writeMeans w ≡ accepted (length (written (itemsIn bytes ends)))
   pub text : take (length (written (itemsIn bytes ends))) out' ≡ written (itemsIn bytes ends)
 
 abbrev pub WriteAccepts : Type 0
 WriteAccepts = (bytes : Bytes) (ends : List ℕ) (out : Bytes) (w : WriteAnswer) (out' : Bytes)
-    → Lent bytes ends → 4096 ≤ length out → Writes bytes ends out w out' → Written bytes ends w out'
+    → Lent bytes ends → 4096 ≤ length out → Writes bytes ends out w out' → WriteLeaves bytes ends w out'
 
 -- The split call is accepted with the number of ends, and the bytes and the ends come back; the rest stays.
 pub record Back (bytes : Bytes) (ends : List ℕ) (b : Bytes) (e : List ℕ) (r : SplitAnswer) (b' : Bytes) (e' : List ℕ) : Type 0 where

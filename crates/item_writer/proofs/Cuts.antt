@@ -8,8 +8,7 @@ use lib.ListN.{length, getD}
 use lib.Dec.{leb}
 use borrow.Author.Tests.{leb-true}
 use Rattle.lines.proofs.Bools.{and-left, and-right}
-use Rattle.items.specs.Write.{endsFit}
-use Rattle.items.specs.Laws.{lastEnd}
+use Rattle.items.specs.Write.{endsFit, lastEnd}
 
 -- what is known of the first end
 pub record FirstEnd (at n e : ℕ) (es : List ℕ) : Type 0 where

@@ -11,25 +11,25 @@ use borrow.Author.Tests.{eq-eqb, ne-eqb}
 use Rattle.lines.specs.Bytes.{between}
 use Rattle.lines.proofs.Bools.{by-cases}
 use Rattle.items.specs.Escapes.{controlLetters, signLetters}
-use Rattle.items.specs.Write.{letterOf, hexDigit, spelled, writtenByte}
-use Rattle.item_writer.specs.Steps.{letterMeans}
+use Rattle.items.specs.Write.{letterOf, hexDigit, byteForm, writtenByte}
+use Rattle.items.specs.Steps.{letterMeans}
 
 module _ (b c : ℕ) (e : letterMeans c ≡ letterOf (controlLetters ++ signLetters) b) where
   pub as-letter : (c ≡ 0 → ⊥) → writtenByte b ≡ 0x5C ∷ c ∷ []
-  unfolding writtenByte spelled
+  unfolding writtenByte byteForm
   as-letter h = rw (sym e, ne-eqb c 0 h)
 
   pub as-itself : c ≡ 0 → between 0x20 0x7E b ≡ true → writtenByte b ≡ b ∷ []
-  unfolding writtenByte spelled
+  unfolding writtenByte byteForm
   as-itself h k = rw (sym e, eq-eqb c 0 h, k)
 
   pub as-digits : c ≡ 0 → between 0x20 0x7E b ≡ false
       → writtenByte b ≡ 0x5C ∷ code "x" ∷ hexDigit (b / 16) ∷ hexDigit (b % 16) ∷ []
-  unfolding writtenByte spelled
+  unfolding writtenByte byteForm
   as-digits h k = rw (sym e, eq-eqb c 0 h, k)
 
-spelled-length : (o : Option ℕ) (b : ℕ) → (1 ≤ length (spelled o b)) × (length (spelled o b) ≤ 4)
-unfolding spelled
+spelled-length : (o : Option ℕ) (b : ℕ) → (1 ≤ length (byteForm o b)) × (length (byteForm o b) ≤ 4)
+unfolding byteForm
 spelled-length (some c) b = (omega arith, omega arith)
 spelled-length none b =
     by-cases (between 0x20 0x7E b)

@@ -8,8 +8,7 @@ use mathlib.Core.List.{List, [], _∷_, _++_, append-assoc, append-nil}
 use lib.ListN.{length, take, drop, getD, length-append, length-drop, drop-of-length-le}
 use lib.Seq.{length-take-le}
 use Rattle.lines.specs.Bytes.{Bytes}
-use Rattle.items.specs.Write.{endsFit, cutFrom, itemsIn, written}
-use Rattle.items.specs.Laws.{lastEnd}
+use Rattle.items.specs.Write.{endsFit, cutFrom, itemsIn, written, lastEnd}
 use Rattle.item_writer.specs.Steps.{following, Puts}
 use Rattle.item_writer.proofs.Rest.{fit-here, cut-here, last-here}
 use Rattle.item_writer.proofs.Putting.{puts-nothing, puts-then}

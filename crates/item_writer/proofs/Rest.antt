@@ -8,8 +8,7 @@ use lib.ListN.{length, take, drop, getD}
 use lib.Dec.{leb}
 use Rattle.lines.specs.Bytes.{Bytes, all, any}
 use Rattle.lines.proofs.Slices.{opened}
-use Rattle.items.specs.Write.{endsFit, cutFrom}
-use Rattle.items.specs.Laws.{lastEnd}
+use Rattle.items.specs.Write.{endsFit, cutFrom, lastEnd}
 
 module _ (l : List ℕ) (i : ℕ) (h : i < length l) where
   pub any-here : (p : ℕ → Bool) → any p (drop i l) ≡ (p (getD l i 0) || any p (drop (i + 1) l))

@@ -14,9 +14,8 @@ use Rattle.lines.specs.Answers.{accepted, refused}
 use Rattle.lines.specs.Buffers.{put}
 use Rattle.items.specs.Answers.{errorMeans}
 use Rattle.items.specs.declared.error.Error.{Error}
-use Rattle.items.specs.declared.error.Error.the-variants.{ShortBuffer, TextTooLong, TooManyItems, NulByte, EndsUnfit}
-use Rattle.items.specs.Write.{endsFit, itemsIn, written, nul, writeIn}
-use Rattle.items.specs.Laws.{lastEnd}
+use Rattle.items.specs.declared.error.Error.the-variants.{ShortBuffer, TextTooLong, TooManyItems, NulByte, BadEnds}
+use Rattle.items.specs.Write.{endsFit, itemsIn, written, nul, writeIn, lastEnd}
 use Rattle.item_writer.specs.Answers.{Writes}
 use Rattle.item_writer.specs.Steps.{Puts}
 use Rattle.item_writer.specs.declared.writer.WriteAnswer.the-variants.{Accepted, Refused}
@@ -41,9 +40,9 @@ module _ (bs : Bytes) (ends : List ℕ) (d : Bytes) where
     too-many h = refuses (TooManyItems 0) (rw (le-ltb (length d) 4096 room, lt-ltb 256 (length ends) h))
 
     module _ (few : length ends ≤ 256) where
-      pub unfit-ends : endsFit 0 (length bs) ends ≡ false → Writes bs ends d (Refused EndsUnfit) d
+      pub unfit-ends : endsFit 0 (length bs) ends ≡ false → Writes bs ends d (Refused BadEnds) d
       unfolding writeIn
-      unfit-ends h = refuses EndsUnfit (rw (le-ltb (length d) 4096 room, le-ltb 256 (length ends) few, h))
+      unfit-ends h = refuses BadEnds (rw (le-ltb (length d) 4096 room, le-ltb 256 (length ends) few, h))
 
       module _ (fit : endsFit 0 (length bs) ends ≡ true) where
         -- 27 and 20 are left

@@ -1,18 +1,11 @@
--- What the functions inside the crate promise: the letter of a byte, and what one of them puts into a text.
+-- What the functions inside the crate promise: what one of them puts into a text.
 use mathlib.Core.Path.{_≡_}
 use Prim.Native.Nat.{ℕ, zero, suc, _+_}
-use mathlib.Core.Bool.{cond}
-use mathlib.Core.Option.{Option, none, some}
 use mathlib.Core.List.{_∷_}
 use lib.ListN.{length}
-use lib.Dec.{eqb}
 use Rattle.lines.specs.Bytes.{Bytes}
 use Rattle.lines.specs.Buffers.{put}
 use Rattle.items.specs.Write.{writtenItem}
-
--- a letter, where 0 stands for none
-abbrev pub letterMeans : ℕ → Option ℕ
-letterMeans c = cond (eqb c 0) none (some c)
 
 -- an item behind some number of others: a space parts it from them
 unfoldable pub following : ℕ → Bytes → Bytes

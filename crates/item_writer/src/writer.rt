@@ -12,9 +12,9 @@ ghost use lib.ListN.{length};
 ghost use lib.Dec.{eqb};
 ghost use Rattle.lines.specs.Bytes.{any};
 ghost use Rattle.items.specs.Escapes.{controlLetters, signLetters};
-ghost use Rattle.items.specs.Write.{bareByte, isBare, letterOf, hexDigit, writtenByte, inQuotes, writtenItem, written, endsFit, itemsIn};
-ghost use Rattle.items.specs.Laws.{lastEnd};
-ghost use Rattle.item_writer.specs.Steps.{letterMeans, following, Puts};
+ghost use Rattle.items.specs.Write.{bareByte, isBare, letterOf, hexDigit, writtenByte, inQuotes, writtenItem, written, endsFit, itemsIn, lastEnd};
+ghost use Rattle.items.specs.Steps.{letterMeans};
+ghost use Rattle.item_writer.specs.Steps.{following, Puts};
 ghost use Rattle.item_writer.specs.Answers.{Writes};
 
 pub enum WriteAnswer {
@@ -234,7 +234,7 @@ pub fn write(bytes: &[u8], ends: &[usize], out: &mut [u8]) -> WriteAnswer
         return WriteAnswer::Refused(Error::TooManyItems(0));
     }
     if !ends_fit(ends, bytes.len()) {
-        return WriteAnswer::Refused(Error::EndsUnfit);
+        return WriteAnswer::Refused(Error::BadEnds);
     }
     let used = last_end(ends);
     if contains(&bytes[0..used], 0x00) {

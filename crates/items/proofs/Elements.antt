@@ -15,7 +15,7 @@ use Rattle.lines.specs.Laws.{All}
 use Rattle.lines.proofs.Bools.{neq-byte}
 use Rattle.items.specs.Pieces.{Piece, plain, escaped, backslash, quote, piecesFrom}
 use Rattle.items.specs.Split.{item, withBytes, withEscape, bareItem, closedItem, quotedItem}
-use Rattle.items.specs.Laws.{Element, itself, escaping, spelt, meant, Gives, InBare, InQuotes, allSpelt, allMeant}
+use Rattle.items.specs.Laws.{Element, itself, escaping, spelt, meant, Gives, BareElement, QuotedElement, allSpelt, allMeant}
 use Rattle.items.proofs.PieceLaws.{pieces-nil, pieces-plain, pieces-escape}
 
 -- ---- one element
@@ -39,21 +39,21 @@ element-piece (escaping u bs) at t h =
     let n : suc (length u) + at ≡ length u + suc at = omega arith in
     pieces-escape at 0x5C (u ++ t) (record { bytes = bs; taken = length u }) refl (h at t) ∙ rw (n, drop-append-seam u t)
 
-pub bare-piece : (e : Element) → InBare e → OnePiece e
+pub bare-piece : (e : Element) → BareElement e → OnePiece e
 bare-piece (itself b) h = h .2
 bare-piece (escaping u bs) h = h
 
-pub quoted-piece : (q : ℕ) (e : Element) → InQuotes q e → OnePiece e
+pub quoted-piece : (q : ℕ) (e : Element) → QuotedElement q e → OnePiece e
 quoted-piece q (itself b) h = h .1
 quoted-piece q (escaping u bs) h = h
 
-pub bare-element : (e : Element) (at : ℕ) (ps : List Piece) → InBare e
+pub bare-element : (e : Element) (at : ℕ) (ps : List Piece) → BareElement e
     → bareItem (pieceOf at e ∷ ps) ≡ withBytes (meant e) (bareItem ps)
 unfolding bareItem withEscape
 bare-element (itself b) at ps h = rw (h .0, h .1)
 bare-element (escaping u bs) at ps h = refl
 
-pub quoted-element : (q o : ℕ) (e : Element) (at : ℕ) (ps : List Piece) → InQuotes q e
+pub quoted-element : (q o : ℕ) (e : Element) (at : ℕ) (ps : List Piece) → QuotedElement q e
     → quotedItem q o (pieceOf at e ∷ ps) ≡ withBytes (meant e) (quotedItem q o ps)
 unfolding quotedItem withEscape
 quoted-element q o (itself b) at ps h = rw (h .0)
@@ -80,7 +80,7 @@ closed-end (b ∷ t) at h = rw (pieces-plain at b t (neq-byte blank 0x5C b refl 
 behind-both : (a b : Bytes) (at : ℕ) → length b + (length a + at) ≡ length (a ++ b) + at
 behind-both a b at = simp length-append (omega arith)
 
-pub bare-elements : (es : List Element) (at : ℕ) (t : Bytes) → All InBare es → parts t ≡ true
+pub bare-elements : (es : List Element) (at : ℕ) (t : Bytes) → All BareElement es → parts t ≡ true
     → bareItem (piecesFrom 0 at (allSpelt es ++ t)) ≡ item (allMeant es) (piecesFrom 0 (length (allSpelt es) + at) t)
 unfolding withBytes
 bare-elements [] at t h p = rw (zero-add at) (bare-end t at p)
@@ -93,7 +93,7 @@ bare-elements (e ∷ es) at t h p =
       behind-both (spelt e) (allSpelt es) at,
     )
 
-pub quoted-elements : (q o : ℕ) (es : List Element) (at : ℕ) (t : Bytes) → quote q ≡ true → All (InQuotes q) es → parts t ≡ true
+pub quoted-elements : (q o : ℕ) (es : List Element) (at : ℕ) (t : Bytes) → quote q ≡ true → All (QuotedElement q) es → parts t ≡ true
     → quotedItem q o (piecesFrom 0 at (allSpelt es ++ q ∷ t))
     ≡ item (allMeant es) (piecesFrom 0 (suc (length (allSpelt es) + at)) t)
 unfolding withBytes quotedItem

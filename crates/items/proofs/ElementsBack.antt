@@ -15,7 +15,7 @@ use Rattle.lines.proofs.Bools.{by-cases, impossible}
 use Rattle.items.specs.Escapes.{Escaped, escape}
 use Rattle.items.specs.Pieces.{Piece, plain, escaped, blankPiece, backslash, quote, behind, piecesFrom}
 use Rattle.items.specs.Split.{Step, item, end, refusal, withBytes, withEscape, bareItem, closedItem, quotedItem}
-use Rattle.items.specs.Laws.{Element, itself, escaping, spelt, meant, InBare, InQuotes, allSpelt, allMeant}
+use Rattle.items.specs.Laws.{Element, itself, escaping, spelt, meant, BareElement, QuotedElement, allSpelt, allMeant}
 use Rattle.items.proofs.Escaping.{escape-gives}
 use Rattle.items.proofs.PieceLaws.{pieces-nil, pieces-refused}
 use Rattle.items.proofs.Elements.{OnePiece, element-piece, parts, closed-end}
@@ -109,33 +109,33 @@ element-back In close e t (item x ps) h r =
 element-back In close e t end h r = r
 element-back In close e t (refusal n p) h r = tt
 
-pub bare-back : {at : ℕ} {t : Bytes} → Read at t → Back InBare [] t (bareItem (piecesFrom 0 at t))
+pub bare-back : {at : ℕ} {t : Bytes} → Read at t → Back BareElement [] t (bareItem (piecesFrom 0 at t))
 unfolding bareItem withEscape parts
-bare-back (nothing at) = rw (pieces-nil at, ← pieces-nil at) (end-back InBare [] [] at refl)
+bare-back (nothing at) = rw (pieces-nil at, ← pieces-nil at) (end-back BareElement [] [] at refl)
 bare-back (element (itself b) at t h r) =
     let ps : List Piece = piecesFrom 0 (1 + at) t in
     let again = bare-back r in
     let x : piecesFrom 0 at (b ∷ t) ≡ plain at b ∷ ps = element-piece (itself b) at t h in
     by-cases (blank b)
-    (λ y. rw (x, y, ← x) (end-back InBare [] (b ∷ t) at y))
+    (λ y. rw (x, y, ← x) (end-back BareElement [] (b ∷ t) at y))
     (λ y. by-cases (quote b)
     (λ z. rw (x, y, z) tt)
-    (λ z. rw (x, y, z) (element-back InBare [] (itself b) t (bareItem ps) (y, z, h) again)))
+    (λ z. rw (x, y, z) (element-back BareElement [] (itself b) t (bareItem ps) (y, z, h) again)))
 bare-back (element (escaping u bs) at t h r) =
     let again = bare-back r in
     rw (element-piece (escaping u bs) at t h)
-    (element-back InBare [] (escaping u bs) t (bareItem (piecesFrom 0 (length (spelt (escaping u bs)) + at) t)) h again)
+    (element-back BareElement [] (escaping u bs) t (bareItem (piecesFrom 0 (length (spelt (escaping u bs)) + at) t)) h again)
 bare-back (refusing at t n p h) = rw (pieces-refused at 0x5C t n p refl h) tt
 
 -- a blank or the end follows a closing quote
-closed-back : (q at : ℕ) (t : Bytes) → Back (InQuotes q) (q ∷ []) (q ∷ t) (closedItem (piecesFrom 0 at t))
+closed-back : (q at : ℕ) (t : Bytes) → Back (QuotedElement q) (q ∷ []) (q ∷ t) (closedItem (piecesFrom 0 at t))
 unfolding closedItem
 closed-back q at t =
     by-cases (parts t)
-    (λ y. rw (closed-end t at y) (end-back (InQuotes q) (q ∷ []) t at y))
+    (λ y. rw (closed-end t at y) (end-back (QuotedElement q) (q ∷ []) t at y))
     (λ y. let b = begins at t y in rw (b .pieces, b .no-blank) tt)
 
-pub quoted-back : (q o : ℕ) {at : ℕ} {t : Bytes} → Read at t → Back (InQuotes q) (q ∷ []) t (quotedItem q o (piecesFrom 0 at t))
+pub quoted-back : (q o : ℕ) {at : ℕ} {t : Bytes} → Read at t → Back (QuotedElement q) (q ∷ []) t (quotedItem q o (piecesFrom 0 at t))
 unfolding quotedItem withEscape
 quoted-back q o (nothing at) = rw (pieces-nil at) tt
 quoted-back q o (element (itself b) at t h r) =
@@ -144,9 +144,9 @@ quoted-back q o (element (itself b) at t h r) =
     rw (element-piece (itself b) at t h)
     (by-cases (eqb b q)
     (λ y. rw (y, eqb-true b q y) (closed-back q (1 + at) t))
-    (λ y. rw y (element-back (InQuotes q) (q ∷ []) (itself b) t (quotedItem q o ps) (y, h) again)))
+    (λ y. rw y (element-back (QuotedElement q) (q ∷ []) (itself b) t (quotedItem q o ps) (y, h) again)))
 quoted-back q o (element (escaping u bs) at t h r) =
     let again = quoted-back q o r in
     rw (element-piece (escaping u bs) at t h)
-    (element-back (InQuotes q) (q ∷ []) (escaping u bs) t (quotedItem q o (piecesFrom 0 (length (spelt (escaping u bs)) + at) t)) h again)
+    (element-back (QuotedElement q) (q ∷ []) (escaping u bs) t (quotedItem q o (piecesFrom 0 (length (spelt (escaping u bs)) + at) t)) h again)
 quoted-back q o (refusing at t n p h) = rw (pieces-refused at 0x5C t n p refl h) tt

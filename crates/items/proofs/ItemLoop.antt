@@ -14,8 +14,8 @@ use Rattle.items.specs.Pieces.{Piece}
 use Rattle.items.specs.Split.{Step, item, end, refusal, withBytes}
 use Rattle.items.specs.Steps.{fewBytes, piecesAt, restOf, PieceAt, BytesAt, EndsAt, ItemRead}
 use Rattle.items.specs.declared.escapes.Few.{Few}
-use Rattle.items.specs.declared.splitter.Mode.{Mode}
-use Rattle.items.specs.declared.splitter.Piece as code
+use Rattle.items.specs.declared.pieces.Mode.{Mode}
+use Rattle.items.specs.declared.pieces.Piece as code
 
 -- ---- bytes before the rest of an item
 

@@ -13,7 +13,7 @@ use Rattle.lines.specs.Answers.{Outcome, accepted, refused}
 use Rattle.lines.proofs.Bools.{by-cases, clash, impossible, and-left, and-right, both, any-all}
 use Rattle.items.specs.Pieces.{Piece, quote, piecesFrom, pieces}
 use Rattle.items.specs.Split.{Step, item, end, refusal, bareItem, quotedItem, pastBlanks, begun, step, withItem, collected, itemsOf, forbidden, firstForbidden, splitOf}
-use Rattle.items.specs.Laws.{Element, InBare, InQuotes, allSpelt, Spelling, bare, quoted, SoundItem, itemSpelt, itemMeant, Spelled}
+use Rattle.items.specs.Laws.{Element, BareElement, QuotedElement, allSpelt, Spelling, bare, quoted, SoundItem, itemSpelt, itemMeant, Spelled}
 use Rattle.items.proofs.StepLaws.{step-end, step-blank, step-quote, step-bare}
 use Rattle.items.proofs.Elements.{parts}
 use Rattle.items.proofs.Listed.{Listed, none-listed, blank-before, item-before, listed-spelled}
@@ -46,7 +46,7 @@ starts-with-element : (es : List Element) (t rest : Bytes) → parts t ≡ false
 starts-with-element [] t rest h k e = impossible (sym h ∙ ap parts e ∙ k)
 starts-with-element (x ∷ es) t rest h k e = omega arith
 
-from-bare : (n : ℕ) (t : Bytes) (s : Step) → parts t ≡ false → Back InBare [] t s → StepBack (suc n) t s
+from-bare : (n : ℕ) (t : Bytes) (s : Step) → parts t ≡ false → Back BareElement [] t s → StepBack (suc n) t s
 unfolding all
 from-bare n t (item x ps) h r =
     record {
@@ -65,7 +65,7 @@ from-bare n t (item x ps) h r =
 from-bare n t end h r = absurd r
 from-bare n t (refusal m p) h r = tt
 
-from-quoted : (n q : ℕ) (t : Bytes) (s : Step) → quote q ≡ true → Back (InQuotes q) (q ∷ []) t s → StepBack (suc n) (q ∷ t) s
+from-quoted : (n q : ℕ) (t : Bytes) (s : Step) → quote q ≡ true → Back (QuotedElement q) (q ∷ []) t s → StepBack (suc n) (q ∷ t) s
 unfolding all
 from-quoted n q t (item x ps) h r =
     record {

@@ -12,8 +12,8 @@ use borrow.Author.Tests.{leb-true, le-leb}
 use Rattle.lines.specs.Bytes.{Bytes}
 use Rattle.lines.proofs.Bools.{and-left, and-right, both}
 use Rattle.items.specs.Split.{bytesOf, endsFrom}
-use Rattle.items.specs.Write.{endsFit, cutFrom, itemsIn}
-use Rattle.items.specs.Laws.{lastEnd, LaidAgain}
+use Rattle.items.specs.Write.{endsFit, cutFrom, itemsIn, lastEnd}
+use Rattle.items.specs.Laws.{LaidAgain}
 
 -- ---- cut and laid again
 

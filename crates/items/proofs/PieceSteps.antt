@@ -17,10 +17,10 @@ use Rattle.items.specs.Pieces.{Piece, plain, escaped, offsetOf, blankPie
 use Rattle.items.specs.Split.{item, refusal, withBytes, bareItem, closedItem, quotedItem, pastBlanks}
 use Rattle.items.specs.Steps.{fewBytes, piecesAt, restOf, BytesAt, EndsAt, PieceAt, ClosedAt}
 use Rattle.items.specs.declared.escapes.Few.{Few}
-use Rattle.items.specs.declared.splitter.Mode.{Mode}
-use Rattle.items.specs.declared.splitter.Mode.the-variants.{Bare, Quoted}
-use Rattle.items.specs.declared.splitter.Piece as code
-use Rattle.items.specs.declared.splitter.Piece.the-variants.{Bytes as PieceBytes, End as PieceEnd, Refused as PieceRefused}
+use Rattle.items.specs.declared.pieces.Mode.{Mode}
+use Rattle.items.specs.declared.pieces.Mode.the-variants.{Bare, Quoted}
+use Rattle.items.specs.declared.pieces.Piece as code
+use Rattle.items.specs.declared.pieces.Piece.the-variants.{Bytes as PieceBytes, End as PieceEnd, Refused as PieceRefused}
 use Rattle.items.proofs.EscapeSteps.{Sized, escape-sized}
 use Rattle.items.proofs.PieceLaws.{pieces-nil, pieces-plain, pieces-escape, pieces-refused}
 

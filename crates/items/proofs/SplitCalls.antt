@@ -14,8 +14,8 @@ use Rattle.lines.specs.Buffers.{put, filled}
 use Rattle.lines.proofs.Buffers.{take-filled}
 use Rattle.items.specs.Pieces.{pieces}
 use Rattle.items.specs.Split.{firstForbidden, itemsOf, splitOf, splitIn, bytesOf, endsFrom}
-use Rattle.items.specs.Answers.{numberOf, placeOf, splitMeans, counted, bytesAfter, endsAfter, Splits}
-use Rattle.items.specs.Steps.{AllRead, ReadAll, SplitInto}
+use Rattle.items.specs.Answers.{numberOf, placeOf, splitMeans, counted, bytesAfter, endsAfter, SplitLeaves, Splits}
+use Rattle.items.specs.Steps.{AllRead, ReadAll}
 use Rattle.items.specs.declared.error.Error.{Error}
 use Rattle.items.specs.declared.error.Error.the-variants.{ShortBuffer, TextTooLong, ForbiddenByte}
 use Rattle.items.specs.declared.splitter.SplitAnswer.{SplitAnswer}
@@ -32,7 +32,7 @@ all-known o b b' e e' r n m q h = subst (ReadAll o b b' e e') q h
 
 -- a refusal leaves the lent buffers as they were
 pub apart-refused : (o : Outcome (List Bytes)) (b b' : Bytes) (e e' : List ℕ) (r : SplitAnswer) (k : Error) → r ≡ Refused k
-    → ReadAll o b b' e e' r → (bytes : Bytes) (ends : List ℕ) → SplitInto o bytes ends r bytes ends
+    → ReadAll o b b' e e' r → (bytes : Bytes) (ends : List ℕ) → SplitLeaves o bytes ends r bytes ends
 apart-refused o b b' e e' r k q h bytes ends =
     let f : o ≡ refused (numberOf k) (placeOf k) = subst (ReadAll o b b' e e') q h in
     record {
@@ -56,7 +56,7 @@ pub apart-copied : (o : Outcome (List Bytes)) (b b' : Bytes) (e e' : List ℕ) (
     → AllRead o n m b b' e e' → (bytes bytes' : Bytes) (ends ends' : List ℕ) → 4096 ≤ length bytes
     → bytes' ≡ cond (leb (0 + length (take (m - 0) b')) (length bytes)) (put bytes 0 (take (m - 0) b')) bytes
     → ends' ≡ filled (take (n - 0) e') ends
-    → SplitInto o bytes ends (Accepted n m) bytes' ends'
+    → SplitLeaves o bytes ends (Accepted n m) bytes' ends'
 apart-copied o b b' e e' n m h bytes bytes' ends ends' l p w =
     let x : take (m - 0) b' ≡ bytesOf (h .items) = ap (take (m - 0)) (h .bytes-are) ∙ front (bytesOf (h .items)) b m (h .size-is) in
     let y : take (n - 0) e' ≡ endsFrom 0 (h .items) = ap (take (n - 0)) (h .ends-are) ∙ front (endsFrom 0 (h .items)) e n (h .count-is ∙ sym (ends-length 0 (h .items))) in
@@ -105,12 +105,8 @@ module _ (t bytes : Bytes) (ends : List ℕ) where
             (enough ∙ rw (le-ltb 4096 (length t) ht, forbidden-there t (omega arith), e))
 
         pub split-apart : length t ≤ i → (r : SplitAnswer) (bytes' : Bytes) (ends' : List ℕ)
-            → SplitInto (itemsOf 256 (pieces t)) bytes ends r bytes' ends' → Splits t bytes ends r bytes' ends'
+            → SplitLeaves (itemsOf 256 (pieces t)) bytes ends r bytes' ends' → Splits t bytes ends r bytes' ends'
         unfolding splitOf
         split-apart h r bytes' ends' s =
             let f : splitIn (length bytes) (length ends) t ≡ itemsOf 256 (pieces t) = enough ∙ rw (le-ltb 4096 (length t) ht, none-forbidden t (omega arith)) in
-            record {
-              answer = s .answer ∙ sym (ap counted f);
-              bytes-after = s .bytes-after ∙ sym (ap (λ (x : Outcome (List Bytes)). bytesAfter x bytes) f);
-              ends-after = s .ends-after ∙ sym (ap (λ (x : Outcome (List Bytes)). endsAfter x ends) f);
-            }
+            subst (λ (o : Outcome (List Bytes)). SplitLeaves o bytes ends r bytes' ends') (sym f) s

@@ -10,7 +10,7 @@ use Rattle.items.specs.Pieces.{backslash, quote}
 use Rattle.items.specs.Split.{end, refusal, itemAt, pastBlanks, begun, step}
 use Rattle.items.specs.Split as split
 use Rattle.items.specs.Steps.{piecesAt, restOf, BlanksPassed, StepTaken}
-use Rattle.items.specs.declared.splitter.Mode.the-variants.{Bare, Quoted}
+use Rattle.items.specs.declared.pieces.Mode.the-variants.{Bare, Quoted}
 use Rattle.items.specs.declared.splitter.Step as code
 use Rattle.items.proofs.PieceSteps.{at-end, at-plain, not-backslash, some-escape, nonblank}
 

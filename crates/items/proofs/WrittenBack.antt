@@ -11,7 +11,7 @@ use Rattle.lines.specs.Answers.{Outcome, accepted}
 use Rattle.lines.proofs.Bools.{by-cases, impossible, clash, and-left, and-right, both, all-append}
 use Rattle.items.specs.Split.{bytesOf, splitOf}
 use Rattle.items.specs.Write.{isBare, inQuotes, writtenItem, written}
-use Rattle.items.specs.Laws.{Element, InBare, InQuotes, allSpelt, Spelling, bare, quoted, SoundItem, itemSpelt, itemMeant, Spelled, Writable}
+use Rattle.items.specs.Laws.{Element, BareElement, QuotedElement, allSpelt, Spelling, bare, quoted, SoundItem, itemSpelt, itemMeant, Spelled, Writable}
 use Rattle.items.proofs.Elements.{parts}
 use Rattle.items.proofs.SpelledItems.{spelled-splits}
 use Rattle.items.proofs.Listed.{Listed, none-listed, blank-before, item-before, listed-spelled}
@@ -35,7 +35,7 @@ bare-item : (x : Bytes) → isBare x ≡ true → all byte x ≡ true → ItemAs
 unfolding isBare
 bare-item [] h k = impossible h
 bare-item (b ∷ x) h k =
-    let r : Inside InBare (b ∷ x) (b ∷ x) = bare-inside (b ∷ x) k h in
+    let r : Inside BareElement (b ∷ x) (b ∷ x) = bare-inside (b ∷ x) k h in
     record {
       spelling = bare (r .list);
       text = r .text;
@@ -47,7 +47,7 @@ bare-item (b ∷ x) h k =
 quoted-item : (x : Bytes) → all byte x ≡ true → ItemAs x (0x22 ∷ inQuotes x ++ 0x22 ∷ [])
 unfolding all
 quoted-item x k =
-    let r : Inside (InQuotes 0x22) x (inQuotes x) = quoted-inside x k in
+    let r : Inside (QuotedElement 0x22) x (inQuotes x) = quoted-inside x k in
     record {
       spelling = quoted 0x22 (r .list);
       text = rw (r .text);

@@ -16,7 +16,7 @@ use Rattle.items.specs.Escapes.{Escaped, escape}
 use Rattle.items.specs.Pieces.{backslash, quote}
 use Rattle.items.specs.Split.{forbidden}
 use Rattle.items.specs.Write.{bareByte, writtenByte, inQuotes}
-use Rattle.items.specs.Laws.{Element, itself, escaping, spelt, meant, InBare, InQuotes, allSpelt, allMeant}
+use Rattle.items.specs.Laws.{Element, itself, escaping, spelt, meant, BareElement, QuotedElement, allSpelt, allMeant}
 use Rattle.items.proofs.Escaping.{escape-gives}
 use Rattle.items.proofs.EachByte.{each-byte}
 
@@ -48,7 +48,7 @@ unfolding given
 sound (itself b) = not (eqb b 0x22) && not (backslash b)
 sound (escaping t bs) = given (escape 0 t) (length t) bs
 
-sound-in-quotes : (e : Element) → sound e ≡ true → InQuotes 0x22 e
+sound-in-quotes : (e : Element) → sound e ≡ true → QuotedElement 0x22 e
 unfolding sound
 sound-in-quotes (itself b) h = (
   not-true (eqb b 0x22) (and-left (not (eqb b 0x22)) (not (backslash b)) h),
@@ -82,7 +82,7 @@ pub record Inside (In : Element → Type 0) (x t : Bytes) : Type 0 where
   pub bytes : all allowed t ≡ true
 
 byte-inside : (b : ℕ) (t : Bytes) (e : Element) (x s : Bytes) → holds b t e ≡ true
-    → Inside (InQuotes 0x22) x s → Inside (InQuotes 0x22) (b ∷ x) (t ++ s)
+    → Inside (QuotedElement 0x22) x s → Inside (QuotedElement 0x22) (b ∷ x) (t ++ s)
 unfolding holds
 byte-inside b t e x s h r =
     let k : (equal (b ∷ []) (meant e) && (sound e && all allowed t)) ≡ true = and-right (equal t (spelt e)) _ h in
@@ -97,7 +97,7 @@ byte-inside b t e x s h r =
       bytes = all-append allowed t s ∙ both (all allowed t) (all allowed s) (and-right (sound e) (all allowed t) l) (r .bytes);
     }
 
-pub quoted-inside : (x : Bytes) → all byte x ≡ true → Inside (InQuotes 0x22) x (inQuotes x)
+pub quoted-inside : (x : Bytes) → all byte x ≡ true → Inside (QuotedElement 0x22) x (inQuotes x)
 unfolding all inQuotes
 quoted-inside [] h = record { list = []; text = refl; means = refl; elements = tt; bytes = refl }
 quoted-inside (b ∷ x) h =
@@ -114,7 +114,7 @@ bare-plainly b h k =
     let t : (not (bareByte b) || plainly b) ≡ true = each-byte (λ b. not (bareByte b) || plainly b) refl b h in
     rw k at t
 
-plainly-inside : (b : ℕ) (x : Bytes) → plainly b ≡ true → Inside InBare x x → Inside InBare (b ∷ x) (b ∷ x)
+plainly-inside : (b : ℕ) (x : Bytes) → plainly b ≡ true → Inside BareElement x x → Inside BareElement (b ∷ x) (b ∷ x)
 unfolding plainly all
 plainly-inside b x h r =
     let k : (not (quote b) && (not (backslash b) && allowed b)) ≡ true = and-right (not (blank b)) _ h in
@@ -134,7 +134,7 @@ plainly-inside b x h r =
       bytes = both (allowed b) (all allowed x) (and-right (not (backslash b)) (allowed b) l) (r .bytes);
     }
 
-pub bare-inside : (x : Bytes) → all byte x ≡ true → all bareByte x ≡ true → Inside InBare x x
+pub bare-inside : (x : Bytes) → all byte x ≡ true → all bareByte x ≡ true → Inside BareElement x x
 unfolding all
 bare-inside [] h k = record { list = []; text = refl; means = refl; elements = tt; bytes = refl }
 bare-inside (b ∷ x) h k =

@@ -8,7 +8,7 @@ use Rattle.lines.specs.Answers.{Outcome, accepted, refused}
 use Rattle.lines.specs.Buffers.{filled}
 use Rattle.items.specs.Split.{bytesOf, endsFrom, splitIn}
 use Rattle.items.specs.declared.error.Error.{Error}
-use Rattle.items.specs.declared.error.Error.the-variants.{ShortBuffer, TextTooLong, ForbiddenByte, StrayQuote, OpenQuote, EscapeForm, EscapeValue, TooManyItems, NulByte, EndsUnfit}
+use Rattle.items.specs.declared.error.Error.the-variants.{ShortBuffer, TextTooLong, ForbiddenByte, MisplacedQuote, OpenQuote, EscapeForm, EscapeValue, TooManyItems, NulByte, BadEnds}
 use Rattle.items.specs.declared.splitter.SplitAnswer.{SplitAnswer}
 use Rattle.items.specs.declared.splitter.SplitAnswer.the-variants.{Accepted, Refused}
 
@@ -17,26 +17,26 @@ abbrev pub numberOf : Error → ℕ
 numberOf ShortBuffer = 1
 numberOf TextTooLong = 20
 numberOf (ForbiddenByte at) = 21
-numberOf (StrayQuote at) = 22
+numberOf (MisplacedQuote at) = 22
 numberOf (OpenQuote at) = 23
 numberOf (EscapeForm at) = 24
 numberOf (EscapeValue at) = 25
 numberOf (TooManyItems at) = 26
 numberOf NulByte = 27
-numberOf EndsUnfit = 28
+numberOf BadEnds = 28
 
 -- and place: an offset, or 0
 abbrev pub placeOf : Error → ℕ
 placeOf ShortBuffer = 0
 placeOf TextTooLong = 0
 placeOf (ForbiddenByte at) = at
-placeOf (StrayQuote at) = at
+placeOf (MisplacedQuote at) = at
 placeOf (OpenQuote at) = at
 placeOf (EscapeForm at) = at
 placeOf (EscapeValue at) = at
 placeOf (TooManyItems at) = at
 placeOf NulByte = 0
-placeOf EndsUnfit = 0
+placeOf BadEnds = 0
 
 -- an error is a refusal
 abbrev pub errorMeans : {A : Type 0} → Error → Outcome A
@@ -69,8 +69,12 @@ abbrev pub endsAfter : Outcome (List Bytes) → List ℕ → List ℕ
 endsAfter (accepted xs) d = filled (endsFrom 0 xs) d
 endsAfter (refused n p) d = d
 
+-- what a call answers and leaves in both buffers, where this is the outcome
+pub record SplitLeaves (o : Outcome (List Bytes)) (bytes : Bytes) (ends : List ℕ) (r : SplitAnswer) (bytes' : Bytes) (ends' : List ℕ) : Type 0 where
+  pub answer : splitMeans r ≡ counted o
+  pub bytes-after : bytes' ≡ bytesAfter o bytes
+  pub ends-after : ends' ≡ endsAfter o ends
+
 -- the promise of `split`: the answer, and both buffers whole
-pub record Splits (text bytes : Bytes) (ends : List ℕ) (r : SplitAnswer) (bytes' : Bytes) (ends' : List ℕ) : Type 0 where
-  pub answer : splitMeans r ≡ counted (splitIn (length bytes) (length ends) text)
-  pub bytes-after : bytes' ≡ bytesAfter (splitIn (length bytes) (length ends) text) bytes
-  pub ends-after : ends' ≡ endsAfter (splitIn (length bytes) (length ends) text) ends
+abbrev pub Splits : (text bytes : Bytes) (ends : List ℕ) (r : SplitAnswer) (bytes' : Bytes) (ends' : List ℕ) → Type 0
+Splits text bytes ends r bytes' ends' = SplitLeaves (splitIn (length bytes) (length ends) text) bytes ends r bytes' ends'

@@ -29,14 +29,14 @@ controlLetters =
     record { letter = code "v"; byte = 0x0B } ∷
     []
 
--- \\ and \"
+-- \\ and \", which the writer uses too
 abbrev pub signLetters : List Letter
 signLetters =
     record { letter = code "\\"; byte = 0x5C } ∷
     record { letter = code "\""; byte = 0x22 } ∷
     []
 
--- \' and \s, which is a space
+-- \' and \s (a space): read, and never written
 abbrev pub readLetters : List Letter
 readLetters =
     record { letter = code "'"; byte = 0x27 } ∷
@@ -105,13 +105,14 @@ byteEscape = numeric oneByte (λ v. v ∷ [])
 abbrev pub pointEscape : (taken at : ℕ) → Option ℕ → Outcome Escaped
 pointEscape = numeric codePoint encoded
 
--- the forms with digits, by the byte behind the backslash; what is none of them has to be three octal digits
+-- The forms with digits, by the byte behind the backslash: x, u or U and its digits; what is none of them has to be
+-- three octal digits.
 unfoldable pub digitEscape : ℕ → ℕ → Bytes → Outcome Escaped
 unfolding number numeric encoded
 digitEscape at c t =
-    cond (eqb c (code "x")) (byteEscape 3 at (number 16 2 t))
-    (cond (eqb c (code "u")) (pointEscape 5 at (number 16 4 t))
-    (cond (eqb c (code "U")) (pointEscape 9 at (number 16 8 t))
+    cond (eqb c (code "x")) (byteEscape (1 + 2) at (number 16 2 t))
+    (cond (eqb c (code "u")) (pointEscape (1 + 4) at (number 16 4 t))
+    (cond (eqb c (code "U")) (pointEscape (1 + 8) at (number 16 8 t))
     (byteEscape 3 at (number 8 3 (c ∷ t)))))
 
 -- a letter where it is one, and a form with digits otherwise
@@ -119,7 +120,8 @@ unfoldable pub letterEscape : Option ℕ → Outcome Escaped → Outcome Escaped
 letterEscape none other = other
 letterEscape (some b) other = accepted (record { bytes = b ∷ []; taken = 1 })
 
--- The escape whose backslash stands at an offset, by the text behind the backslash. Refused is the backslash.
+-- The escape whose backslash stands at an offset, by the text behind the backslash. The place of a refusal is that
+-- offset.
 unfoldable pub escape : ℕ → Bytes → Outcome Escaped
 unfolding byteOf digitEscape letterEscape
 escape at [] = refused 24 at

@@ -11,7 +11,7 @@ use Rattle.lines.specs.Laws.{All}
 use Rattle.items.specs.Escapes.{escape}
 use Rattle.items.specs.Pieces.{backslash, quote}
 use Rattle.items.specs.Split.{forbidden, splitOf, splitIn, bytesOf, endsFrom}
-use Rattle.items.specs.Write.{written, endsFit, itemsIn, nul, writeIn}
+use Rattle.items.specs.Write.{written, endsFit, itemsIn, lastEnd, nul, writeIn}
 
 -- ---- splitting, said once more: by the texts that are split
 
@@ -36,14 +36,14 @@ abbrev pub Gives : (behind gives : Bytes) → Type 0
 Gives t bs = (at : ℕ) (rest : Bytes) → escape at (t ++ rest) ≡ accepted (record { bytes = bs; taken = length t })
 
 -- an element of a bare item: no blank, no quote, no backslash; or an escape
-abbrev pub InBare : Element → Type 0
-InBare (itself b) = (blank b ≡ false) × (quote b ≡ false) × (backslash b ≡ false)
-InBare (escaping t bs) = Gives t bs
+abbrev pub BareElement : Element → Type 0
+BareElement (itself b) = (blank b ≡ false) × (quote b ≡ false) × (backslash b ≡ false)
+BareElement (escaping t bs) = Gives t bs
 
 -- an element between quotes of one kind: neither this quote nor a backslash; or an escape
-abbrev pub InQuotes : ℕ → Element → Type 0
-InQuotes q (itself b) = (eqb b q ≡ false) × (backslash b ≡ false)
-InQuotes q (escaping t bs) = Gives t bs
+abbrev pub QuotedElement : ℕ → Element → Type 0
+QuotedElement q (itself b) = (eqb b q ≡ false) × (backslash b ≡ false)
+QuotedElement q (escaping t bs) = Gives t bs
 
 -- an item as it is written: bare, or in quotes of one kind
 pub data Spelling : Type 0 where
@@ -52,8 +52,8 @@ pub data Spelling : Type 0 where
 
 -- so it has to be: one or more elements of a bare item, or any number between quotes
 abbrev pub SoundItem : Spelling → Type 0
-SoundItem (bare es) = (0 < length es) × All InBare es
-SoundItem (quoted q es) = (quote q ≡ true) × All (InQuotes q) es
+SoundItem (bare es) = (0 < length es) × All BareElement es
+SoundItem (quoted q es) = (quote q ≡ true) × All (QuotedElement q) es
 
 -- elements one after another, in the text
 abbrev pub allSpelt : List Element → Bytes
@@ -140,11 +140,6 @@ abbrev pub SameWritten : Type 0
 SameWritten = (xs ys : List Bytes) → Writable xs → Writable ys → written xs ≡ written ys → xs ≡ ys
 
 -- ---- bytes and ends
-
--- the last end, or the start where there is no item
-abbrev pub lastEnd : ℕ → List ℕ → ℕ
-lastEnd at [] = at
-lastEnd at (e ∷ es) = lastEnd e es
 
 -- what ends cut out of bytes, laid out again: the bytes up to the last end, and the same ends
 pub record LaidAgain (bs : Bytes) (ends : List ℕ) : Type 0 where

@@ -90,7 +90,7 @@ collected (item x ps) rest = withItem x (rest ps)
 collected end rest = accepted []
 collected (refusal n p) rest = refused n p
 
--- The items of pieces, at most n. Where none may come, no step finds one, and nothing is read on.
+-- The items of pieces, at most n. With n = 0 a step finds the end or 26, so that what follows an item is not asked.
 unfoldable pub itemsOf : ℕ → List Piece → Outcome (List Bytes)
 unfolding step collected
 itemsOf zero ps = collected (step zero ps) (λ rest. accepted [])
@@ -128,6 +128,6 @@ endsFrom at [] = []
 endsFrom at (x ∷ xs) = (at + length x) ∷ endsFrom (at + length x) xs
 
 -- 1 before everything: the buffers have at least 4,096 bytes and 256 numbers
-unfoldable pub splitIn : (bytes ends : ℕ) → Bytes → Outcome (List Bytes)
+unfoldable pub splitIn : (bytesSize endsSize : ℕ) → Bytes → Outcome (List Bytes)
 unfolding splitOf
-splitIn bytes ends t = cond (ltb bytes 4096 || ltb ends 256) (refused 1 0) (splitOf t)
+splitIn bytesSize endsSize t = cond (ltb bytesSize 4096 || ltb endsSize 256) (refused 1 0) (splitOf t)

@@ -14,17 +14,17 @@ use Rattle.items.specs.Pieces.{piecesFrom}
 use Rattle.items.specs.Pieces as pieces
 use Rattle.items.specs.Split.{item, end, refusal, withBytes, bareItem, quotedItem, closedItem, pastBlanks, bytesOf, endsFrom}
 use Rattle.items.specs.Split as split
-use Rattle.items.specs.Answers.{numberOf, placeOf, errorMeans, splitMeans, counted, bytesAfter, endsAfter}
+use Rattle.items.specs.Answers.{numberOf, placeOf, errorMeans}
 use Rattle.items.specs.declared.error.Error.{Error}
 use Rattle.items.specs.declared.escapes.Number.{Number}
 use Rattle.items.specs.declared.escapes.Number.the-variants.{Value, Malformed}
 use Rattle.items.specs.declared.escapes.Few.{Few}
 use Rattle.items.specs.declared.escapes.Escape.{Escape}
 use Rattle.items.specs.declared.escapes.Escape.the-variants.{Bytes as EscapeBytes, Refused as EscapeRefused}
-use Rattle.items.specs.declared.splitter.Mode.{Mode}
-use Rattle.items.specs.declared.splitter.Mode.the-variants.{Bare, Quoted}
-use Rattle.items.specs.declared.splitter.Piece.{Piece}
-use Rattle.items.specs.declared.splitter.Piece.the-variants.{Bytes as PieceBytes, End as PieceEnd, Refused as PieceRefused}
+use Rattle.items.specs.declared.pieces.Mode.{Mode}
+use Rattle.items.specs.declared.pieces.Mode.the-variants.{Bare, Quoted}
+use Rattle.items.specs.declared.pieces.Piece.{Piece}
+use Rattle.items.specs.declared.pieces.Piece.the-variants.{Bytes as PieceBytes, End as PieceEnd, Refused as PieceRefused}
 use Rattle.items.specs.declared.splitter.Step.{Step}
 use Rattle.items.specs.declared.splitter.Step.the-variants.{Item, End, Refused}
 use Rattle.items.specs.declared.splitter.SplitAnswer.{SplitAnswer}
@@ -41,7 +41,7 @@ abbrev pub numberMeans : Number → Option ℕ
 numberMeans (Value v) = some v
 numberMeans Malformed = none
 
--- one to four bytes
+-- up to four bytes
 abbrev pub fewBytes : Few → Bytes
 fewBytes f = take (f .count) (f .b0 ∷ f .b1 ∷ f .b2 ∷ f .b3 ∷ [])
 
@@ -145,9 +145,3 @@ pub record AllRead (o : Outcome (List Bytes)) (count size : ℕ) (bytes bytes' :
 abbrev pub ReadAll : Outcome (List Bytes) → (bytes bytes' : Bytes) (ends ends' : List ℕ) → SplitAnswer → Type 0
 ReadAll o bytes bytes' ends ends' (SplitAccepted count size) = AllRead o count size bytes bytes' ends ends'
 ReadAll o bytes bytes' ends ends' (SplitRefused e) = o ≡ errorMeans e
-
--- the same with lent buffers: the answer, and both buffers whole
-pub record SplitInto (o : Outcome (List Bytes)) (bytes : Bytes) (ends : List ℕ) (r : SplitAnswer) (bytes' : Bytes) (ends' : List ℕ) : Type 0 where
-  pub answer : splitMeans r ≡ counted o
-  pub bytes-after : bytes' ≡ bytesAfter o bytes
-  pub ends-after : ends' ≡ endsAfter o ends

@@ -35,15 +35,15 @@ abbrev pub hexDigit : ℕ → ℕ
 hexDigit n = cond (ltb n 10) (0x30 + n) (0x61 + n - 10)
 
 -- a backslash and a letter where one is listed; 20 to 7E as they are; any other byte as \x and two digits
-unfoldable pub spelled : Option ℕ → ℕ → Bytes
-spelled (some c) b = 0x5C ∷ c ∷ []
-spelled none b =
+unfoldable pub byteForm : Option ℕ → ℕ → Bytes
+byteForm (some c) b = 0x5C ∷ c ∷ []
+byteForm none b =
     cond (between 0x20 0x7E b) (b ∷ []) (0x5C ∷ code "x" ∷ hexDigit (b / 16) ∷ hexDigit (b % 16) ∷ [])
 
 -- a byte inside double quotes; letters are the seven for control bytes, \\ and \"
 unfoldable pub writtenByte : ℕ → Bytes
-unfolding letterOf spelled
-writtenByte b = spelled (letterOf (controlLetters ++ signLetters) b) b
+unfolding letterOf byteForm
+writtenByte b = byteForm (letterOf (controlLetters ++ signLetters) b) b
 
 -- and all bytes of an item
 unfoldable pub inQuotes : Bytes → Bytes
@@ -81,15 +81,20 @@ cutFrom at bs (e ∷ es) = take (e - at) (drop at bs) ∷ cutFrom e bs es
 abbrev pub itemsIn : Bytes → List ℕ → List Bytes
 itemsIn bs ends = cutFrom 0 bs ends
 
+-- where the last item ends, or the start where there is none
+abbrev pub lastEnd : ℕ → List ℕ → ℕ
+lastEnd at [] = at
+lastEnd at (e ∷ es) = lastEnd e es
+
 -- a byte that no item to write may have
 abbrev pub nul : ℕ → Bool
 nul b = eqb b 0x00
 
 -- the text for a buffer of this size, or the refusal: 1, 26, 28, 27, 20
-unfoldable pub writeIn : (out : ℕ) → Bytes → List ℕ → Outcome Bytes
+unfoldable pub writeIn : (outSize : ℕ) → Bytes → List ℕ → Outcome Bytes
 unfolding endsFit cutFrom any bytesOf written
-writeIn out bs ends =
-    cond (ltb out 4096) (refused 1 0)
+writeIn outSize bs ends =
+    cond (ltb outSize 4096) (refused 1 0)
     (cond (ltb 256 (length ends)) (refused 26 0)
     (cond (not (endsFit 0 (length bs) ends)) (refused 28 0)
     (cond (any nul (bytesOf (itemsIn bs ends))) (refused 27 0)

@@ -8,13 +8,14 @@ pub enum Error {
     TextTooLong,
     ForbiddenByte(usize),
     // A quote inside a bare item, or something else than a blank behind a closing quote.
-    StrayQuote(usize),
+    MisplacedQuote(usize),
     OpenQuote(usize),
     EscapeForm(usize),
     EscapeValue(usize),
+    // At 0 for a list to write.
     TooManyItems(usize),
     NulByte,
-    EndsUnfit,
+    BadEnds,
 }
 
 impl Error {
@@ -26,13 +27,13 @@ impl Error {
             Error::ShortBuffer => 1,
             Error::TextTooLong => 20,
             Error::ForbiddenByte(_) => 21,
-            Error::StrayQuote(_) => 22,
+            Error::MisplacedQuote(_) => 22,
             Error::OpenQuote(_) => 23,
             Error::EscapeForm(_) => 24,
             Error::EscapeValue(_) => 25,
             Error::TooManyItems(_) => 26,
             Error::NulByte => 27,
-            Error::EndsUnfit => 28,
+            Error::BadEnds => 28,
         }
     }
 
@@ -44,13 +45,13 @@ impl Error {
             Error::ShortBuffer => 0,
             Error::TextTooLong => 0,
             Error::ForbiddenByte(at) => at,
-            Error::StrayQuote(at) => at,
+            Error::MisplacedQuote(at) => at,
             Error::OpenQuote(at) => at,
             Error::EscapeForm(at) => at,
             Error::EscapeValue(at) => at,
             Error::TooManyItems(at) => at,
             Error::NulByte => 0,
-            Error::EndsUnfit => 0,
+            Error::BadEnds => 0,
         }
     }
 }

@@ -15,7 +15,7 @@ pub(crate) enum Number {
     Malformed,
 }
 
-// One to four bytes, as many as `count` says.
+// Up to four bytes, as many as `count` says.
 pub(crate) struct Few {
     pub b0: u8,
     pub b1: u8,

@@ -1,40 +1,23 @@
 // The splitter: a text into items.
 use crate::error::Error;
-use crate::escapes::Escape;
 use crate::escapes::Few;
-use crate::escapes::escape_error;
-use crate::escapes::one;
-use crate::escapes::read_escape;
+use crate::pieces::Mode;
+use crate::pieces::Piece;
+use crate::pieces::is_quote;
+use crate::pieces::piece_at;
 use lines::is_blank;
 ghost use mathlib.Core.Path.{_≡_};
-ghost use mathlib.Core.Bool.{true};
 ghost use Prim.Native.Nat.{_+_, _≤_, _<_};
-ghost use lib.ListN.{length, getD};
+ghost use lib.ListN.{length};
 ghost use Rattle.lines.specs.Buffers.{put, filled};
-ghost use Rattle.items.specs.Pieces.{backslash, quote, pieces};
+ghost use Rattle.items.specs.Pieces.{pieces};
 ghost use Rattle.items.specs.Split.{forbidden, firstForbidden, step, itemsOf};
-ghost use Rattle.items.specs.Answers.{Splits};
-ghost use Rattle.items.specs.declared.splitter.Mode.the-variants.{Bare, Quoted};
-ghost use Rattle.items.specs.Steps.{fewBytes, piecesAt, restOf, PieceAt, EscapePiece, ClosedAt, BlanksPassed, StepTaken, ReadAll, SplitInto};
+ghost use Rattle.items.specs.Answers.{SplitLeaves, Splits};
+ghost use Rattle.items.specs.Steps.{fewBytes, piecesAt, restOf, BlanksPassed, StepTaken, ReadAll};
 
 pub enum SplitAnswer {
     // How many items, and how many bytes they have together.
     Accepted { count: usize, length: usize },
-    Refused(Error),
-}
-
-// The kind of item that is being read: bare, or in quotes, of which the first stands at an offset.
-enum Mode {
-    Bare,
-    Quoted { quote: u8, opening: usize },
-}
-
-// What stands at an offset inside an item.
-enum Piece {
-    // Bytes of the item, and where the next piece stands.
-    Bytes { bytes: Few, next: usize },
-    // The item's end, and where reading goes on.
-    End { next: usize },
     Refused(Error),
 }
 
@@ -46,17 +29,14 @@ enum Step {
     Refused(Error),
 }
 
+// The least sizes of the buffers for items, and the longest text.
 const BYTES: usize = 4096;
 
 const ENDS: usize = 256;
 
-// ---- tests on a byte
+const LONGEST: usize = 4096;
 
-fn is_quote(b: u8) -> bool
-    ensures { λ r. ⌜ r ≡ quote b ⌝ }
-{
-    b == b'"' || b == b'\''
-}
+// ---- bytes that are refused
 
 // A byte that a text to split may not have.
 fn is_forbidden(b: u8) -> bool
@@ -80,97 +60,6 @@ fn first_forbidden(text: &[u8]) -> usize
         i += 1;
     }
     i
-}
-
-// ---- the pieces of an item
-
-// An escape, in and out of quotes.
-fn escape_piece(text: &[u8], at: usize) -> Piece
-    requires { ⌜ (at < length (now text)) × (backslash (getD (now text) at 0) ≡ true) ⌝ }
-    ensures { λ r. ⌜ EscapePiece (now (text .entry)) at r ⌝ }
-{
-    let e = read_escape(text, at);
-    let Escape::Bytes { bytes, taken } = e else {
-        return Piece::Refused(escape_error(e));
-    };
-    Piece::Bytes {
-        bytes,
-        next: at + 1 + taken,
-    }
-}
-
-// A piece of a bare item: a blank ends it, and a quote is refused.
-fn bare_piece(text: &[u8], at: usize) -> Piece
-    requires { ⌜ at < length (now text) ⌝ }
-    ensures { λ r. ⌜ PieceAt Bare (now (text .entry)) at r ⌝ }
-{
-    let b = text[at];
-    if is_blank(b) {
-        return Piece::End { next: at };
-    }
-    if is_quote(b) {
-        return Piece::Refused(Error::StrayQuote(at));
-    }
-    if b == b'\\' {
-        return escape_piece(text, at);
-    }
-    Piece::Bytes {
-        bytes: one(b),
-        next: at + 1,
-    }
-}
-
-// Behind a closing quote a blank or the end has to follow.
-fn closed_piece(text: &[u8], at: usize) -> Piece
-    requires { ⌜ at ≤ length (now text) ⌝ }
-    ensures { λ r. ⌜ ClosedAt (now (text .entry)) at r ⌝ }
-{
-    if text.len() <= at {
-        return Piece::End { next: at };
-    }
-    if is_blank(text[at]) {
-        return Piece::End { next: at };
-    }
-    Piece::Refused(Error::StrayQuote(at))
-}
-
-// A piece between quotes: the same quote closes them, and the other kind is data.
-fn quoted_piece(text: &[u8], quote: u8, opening: usize, at: usize) -> Piece
-    requires { ⌜ at < length (now text) ⌝ }
-    ensures { λ r. ⌜ PieceAt (Quoted quote opening) (now (text .entry)) at r ⌝ }
-{
-    let b = text[at];
-    if b == b'\\' {
-        return escape_piece(text, at);
-    }
-    if b == quote {
-        return closed_piece(text, at + 1);
-    }
-    Piece::Bytes {
-        bytes: one(b),
-        next: at + 1,
-    }
-}
-
-// The piece at an offset, or the end of the text.
-fn piece_at(text: &[u8], mode: Mode, at: usize) -> Piece
-    requires { ⌜ at ≤ length (now text) ⌝ }
-    ensures { λ r. ⌜ PieceAt mode (now (text .entry)) at r ⌝ }
-{
-    match mode {
-        Mode::Bare => {
-            if at < text.len() {
-                return bare_piece(text, at);
-            }
-            Piece::End { next: at }
-        }
-        Mode::Quoted { quote, opening } => {
-            if at < text.len() {
-                return quoted_piece(text, quote, opening, at);
-            }
-            Piece::Refused(Error::OpenQuote(opening))
-        }
-    }
 }
 
 // ---- an item
@@ -200,12 +89,12 @@ fn store(buffer: &mut [u8], at: usize, bytes: Few)
 }
 
 // The rest of an item, into a buffer from an index on.
-fn read_item(text: &[u8], mode: Mode, start: usize, buffer: &mut [u8], filled: usize) -> Step
-    requires { ⌜ (length (now text) ≤ length (now buffer)) × (start ≤ length (now text)) × (filled ≤ start) ⌝ }
-    ensures { λ r. ⌜ StepTaken (now (text .entry)) (restOf mode (piecesAt (now (text .entry)) start)) filled (now (buffer .entry)) (now (buffer .exit)) r ⌝ }
+fn read_item(text: &[u8], mode: Mode, start: usize, buffer: &mut [u8], used: usize) -> Step
+    requires { ⌜ (length (now text) ≤ length (now buffer)) × (start ≤ length (now text)) × (used ≤ start) ⌝ }
+    ensures { λ r. ⌜ StepTaken (now (text .entry)) (restOf mode (piecesAt (now (text .entry)) start)) used (now (buffer .entry)) (now (buffer .exit)) r ⌝ }
 {
     let mut at = start;
-    let mut size = filled;
+    let mut size = used;
     loop {
         match piece_at(text, mode, at) {
             Piece::Bytes { bytes, next } => {
@@ -238,9 +127,9 @@ fn past_blanks(text: &[u8], start: usize) -> usize
 }
 
 // The next item, where `more` further ones may come.
-fn next_item(text: &[u8], more: usize, start: usize, buffer: &mut [u8], filled: usize) -> Step
-    requires { ⌜ (length (now text) ≤ length (now buffer)) × (start ≤ length (now text)) × (filled ≤ start) ⌝ }
-    ensures { λ r. ⌜ StepTaken (now (text .entry)) (step more (piecesAt (now (text .entry)) start)) filled (now (buffer .entry)) (now (buffer .exit)) r ⌝ }
+fn next_item(text: &[u8], more: usize, start: usize, buffer: &mut [u8], used: usize) -> Step
+    requires { ⌜ (length (now text) ≤ length (now buffer)) × (start ≤ length (now text)) × (used ≤ start) ⌝ }
+    ensures { λ r. ⌜ StepTaken (now (text .entry)) (step more (piecesAt (now (text .entry)) start)) used (now (buffer .entry)) (now (buffer .exit)) r ⌝ }
 {
     let at = past_blanks(text, start);
     if text.len() <= at {
@@ -252,17 +141,17 @@ fn next_item(text: &[u8], more: usize, start: usize, buffer: &mut [u8], filled: 
     let first = text[at];
     if is_quote(first) {
         let mode = Mode::Quoted {
-            quote: first,
+            kind: first,
             opening: at,
         };
-        return read_item(text, mode, at + 1, buffer, filled);
+        return read_item(text, mode, at + 1, buffer, used);
     }
-    read_item(text, Mode::Bare, at, buffer, filled)
+    read_item(text, Mode::Bare, at, buffer, used)
 }
 
 // ---- all items
 
-// All items of a text, into buffers that are long enough.
+// All items of a text, into buffers of the least sizes.
 fn read_items(text: &[u8], bytes: &mut [u8], ends: &mut [usize]) -> SplitAnswer
     requires { ⌜ (length (now text) ≤ 4096) × (length (now bytes) ≡ 4096) × (length (now ends) ≡ 256) ⌝ }
     ensures { λ r. ⌜ ReadAll (itemsOf 256 (pieces (now (text .entry)))) (now (bytes .entry)) (now (bytes .exit)) (now (ends .entry)) (now (ends .exit)) r ⌝ }
@@ -284,7 +173,7 @@ fn read_items(text: &[u8], bytes: &mut [u8], ends: &mut [usize]) -> SplitAnswer
     }
 }
 
-// Copies the first numbers of a buffer to the front of another.
+// Copies numbers to the front of a buffer.
 fn copy_numbers(from: &[usize], to: &mut [usize])
     requires { ⌜ length (now from) ≤ length (now to) ⌝ }
     ensures { λ r. ⌜ now (to .exit) ≡ filled (now (from .entry)) (now (to .entry)) ⌝ }
@@ -299,7 +188,7 @@ fn copy_numbers(from: &[usize], to: &mut [usize])
 // The items of a text by way of buffers of its own, so that a refusal leaves the lent ones as they were.
 fn split_apart(text: &[u8], bytes: &mut [u8], ends: &mut [usize]) -> SplitAnswer
     requires { ⌜ (length (now text) ≤ 4096) × (4096 ≤ length (now bytes)) × (256 ≤ length (now ends)) ⌝ }
-    ensures { λ r. ⌜ SplitInto (itemsOf 256 (pieces (now (text .entry)))) (now (bytes .entry)) (now (ends .entry)) r (now (bytes .exit)) (now (ends .exit)) ⌝ }
+    ensures { λ r. ⌜ SplitLeaves (itemsOf 256 (pieces (now (text .entry)))) (now (bytes .entry)) (now (ends .entry)) r (now (bytes .exit)) (now (ends .exit)) ⌝ }
 {
     let mut scratch = [0u8; BYTES];
     let mut numbers = [0usize; ENDS];
@@ -323,7 +212,7 @@ pub fn split(text: &[u8], bytes: &mut [u8], ends: &mut [usize]) -> SplitAnswer
     if ends.len() < ENDS {
         return SplitAnswer::Refused(Error::ShortBuffer);
     }
-    if BYTES < text.len() {
+    if LONGEST < text.len() {
         return SplitAnswer::Refused(Error::TextTooLong);
     }
     let first = first_forbidden(text);

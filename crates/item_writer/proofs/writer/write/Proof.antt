@@ -7,8 +7,7 @@ use lib.ListN.{length, take, length-replicate}
 use denote.Ref.{now}
 use borrow.Author.Tests.{not-true, not-false}
 use Rattle.lines.specs.Bytes.{any}
-use Rattle.items.specs.Write.{endsFit, nul}
-use Rattle.items.specs.Laws.{lastEnd}
+use Rattle.items.specs.Write.{endsFit, nul, lastEnd}
 use Rattle.items.proofs.Laws.{cut-is-laid-again}
 use Rattle.item_writer.proofs.Verdict.{used-bytes, short-buffer, too-many, unfit-ends, nul-byte, long-bytes, long-text, text-copied}
 use borrow.Author.Needs.{needs}

@@ -41,7 +41,7 @@ returns-3 : tie.Need-returns-3
 returns-3 c = let a = c .before .before .before .before .before .before .before .before .before in
     let s = a .before .before .before in
     let p = a .past-blanks .ensures in
-    same-step (now (s .args .text)) _ _ (s .args .filled) _ (c .before .before .read-item .last .1 .1 .1 .0) (c .before .before .read-item .result) (step-quoted (now (s .args .text)) (s .args .more) (s .args .start) _ p (omega arith) (c .before .before .before .before .before .before .before .if2 .left) (sym (c .before .before .before .before .before .is-quote .ensures) ∙ c .before .before .before .before .if3 .taken)) (c .before .before .read-item .ensures)
+    same-step (now (s .args .text)) _ _ (s .args .used) _ (c .before .before .read-item .last .1 .1 .1 .0) (c .before .before .read-item .result) (step-quoted (now (s .args .text)) (s .args .more) (s .args .start) _ p (omega arith) (c .before .before .before .before .before .before .before .if2 .left) (sym (c .before .before .before .before .before .is-quote .ensures) ∙ c .before .before .before .before .if3 .taken)) (c .before .before .read-item .ensures)
 
 read-item-requires-2 : tie.Need-read-item-requires-2
 read-item-requires-2 c κs = search needs
@@ -53,7 +53,7 @@ returns-4 : tie.Need-returns-4
 returns-4 c = let a = c .before .before .before .before .before .before .before .before .before in
     let s = a .before .before .before in
     let p = a .past-blanks .ensures in
-    same-step (now (s .args .text)) _ _ (s .args .filled) _ (c .before .before .read-item2 .last .1 .1 .1 .0) (c .before .before .read-item2 .result) (step-bare (now (s .args .text)) (s .args .more) (s .args .start) _ p (omega arith) (c .before .before .before .before .before .before .before .if2 .left) (sym (c .before .before .before .before .before .is-quote .ensures) ∙ c .before .before .before .before .if3 .left)) (c .before .before .read-item2 .ensures)
+    same-step (now (s .args .text)) _ _ (s .args .used) _ (c .before .before .read-item2 .last .1 .1 .1 .0) (c .before .before .read-item2 .result) (step-bare (now (s .args .text)) (s .args .more) (s .args .start) _ p (omega arith) (c .before .before .before .before .before .before .before .if2 .left) (sym (c .before .before .before .before .before .is-quote .ensures) ∙ c .before .before .before .before .if3 .left)) (c .before .before .read-item2 .ensures)
 
 pub next-item-spec : {M : Type 1} → statement M
 next-item-spec =

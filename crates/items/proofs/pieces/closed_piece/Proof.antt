@@ -3,8 +3,8 @@ use mathlib.Core.Path.{refl, sym, _∙_}
 use native.Mathlib.Omega.{arith}
 use Rattle.items.proofs.PieceSteps.{closed-over, closed-blank, closed-stray}
 use borrow.Author.Needs.{needs}
-use Rattle.items.proofs.splitter.closed_piece.Statement.{statement}
-use Rattle.items.proofs.splitter.closed_piece.Tie as tie
+use Rattle.items.proofs.pieces.closed_piece.Statement.{statement}
+use Rattle.items.proofs.pieces.closed_piece.Tie as tie
 
 returns : tie.Need-returns
 returns c = (closed-over _ _ (c .if1 .taken), refl)

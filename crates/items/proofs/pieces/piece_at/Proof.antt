@@ -2,11 +2,11 @@
 use native.Mathlib.Omega.{arith}
 use denote.Ref.{now}
 use Rattle.items.specs.declared.error.Error.the-variants.{OpenQuote}
-use Rattle.items.specs.declared.splitter.Piece.the-variants.{End as PieceEnd, Refused as PieceRefused}
+use Rattle.items.specs.declared.pieces.Piece.the-variants.{End as PieceEnd, Refused as PieceRefused}
 use Rattle.items.proofs.PieceSteps.{bare-over, quoted-over, same-mode}
 use borrow.Author.Needs.{needs}
-use Rattle.items.proofs.splitter.piece_at.Statement.{statement}
-use Rattle.items.proofs.splitter.piece_at.Tie as tie
+use Rattle.items.proofs.pieces.piece_at.Statement.{statement}
+use Rattle.items.proofs.pieces.piece_at.Tie as tie
 
 enum-told : tie.Need-enum-told
 enum-told c = search needs

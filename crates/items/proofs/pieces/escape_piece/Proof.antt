@@ -4,8 +4,8 @@ use denote.Ref.{now}
 use Rattle.items.proofs.EscapeSteps.{bytes-answer, refused-answer}
 use Rattle.items.proofs.PieceSteps.{escape-inside, escape-bytes, escape-wrong}
 use borrow.Author.Needs.{needs}
-use Rattle.items.proofs.splitter.escape_piece.Statement.{statement}
-use Rattle.items.proofs.splitter.escape_piece.Tie as tie
+use Rattle.items.proofs.pieces.escape_piece.Statement.{statement}
+use Rattle.items.proofs.pieces.escape_piece.Tie as tie
 
 read-escape-requires : tie.Need-read-escape-requires
 read-escape-requires c κs = search needs

@@ -1,7 +1,7 @@
 -- `is_quote` is the two comparisons.
 use borrow.Author.Tests.{eq-eqb, ne-eqb}
-use Rattle.items.proofs.splitter.is_quote.Statement.{statement}
-use Rattle.items.proofs.splitter.is_quote.Tie as tie
+use Rattle.items.proofs.pieces.is_quote.Statement.{statement}
+use Rattle.items.proofs.pieces.is_quote.Tie as tie
 
 returns : tie.Need-returns
 returns c = rw (eq-eqb _ _ (c .if1 .taken))

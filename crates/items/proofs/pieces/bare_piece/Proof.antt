@@ -1,11 +1,11 @@
 -- `bare_piece`: by the byte that stands there.
 use mathlib.Core.Path.{sym, _∙_}
 use borrow.Author.Tests.{eq-eqb, ne-eqb}
-use Rattle.items.specs.declared.splitter.Mode.the-variants.{Bare}
+use Rattle.items.specs.declared.pieces.Mode.the-variants.{Bare}
 use Rattle.items.proofs.PieceSteps.{bare-blank, bare-quote, bare-byte}
 use borrow.Author.Needs.{needs}
-use Rattle.items.proofs.splitter.bare_piece.Statement.{statement}
-use Rattle.items.proofs.splitter.bare_piece.Tie as tie
+use Rattle.items.proofs.pieces.bare_piece.Statement.{statement}
+use Rattle.items.proofs.pieces.bare_piece.Tie as tie
 
 shared-slice-read-b : tie.Need-shared-slice-read-b
 shared-slice-read-b c = search needs

@@ -1,11 +1,11 @@
 -- `quoted_piece`: by the byte that stands there.
 use borrow.Author.Tests.{eq-eqb, ne-eqb}
 use denote.Ref.{now}
-use Rattle.items.specs.declared.splitter.Mode.the-variants.{Quoted}
+use Rattle.items.specs.declared.pieces.Mode.the-variants.{Quoted}
 use Rattle.items.proofs.PieceSteps.{quoted-closed, quoted-byte}
 use borrow.Author.Needs.{needs}
-use Rattle.items.proofs.splitter.quoted_piece.Statement.{statement}
-use Rattle.items.proofs.splitter.quoted_piece.Tie as tie
+use Rattle.items.proofs.pieces.quoted_piece.Statement.{statement}
+use Rattle.items.proofs.pieces.quoted_piece.Tie as tie
 
 shared-slice-read-b : tie.Need-shared-slice-read-b
 shared-slice-read-b c = search needs
@@ -25,7 +25,7 @@ closed-piece-requires c κs = search needs
 returns-2 : tie.Need-returns-2
 returns-2 c = let e = c .before .before in
     let s = e .before .before .before in
-    quoted-closed (now (s .args .text)) (s .args .at) (s .args .quote) (s .args .opening) (s .pre) (ne-eqb _ _ (e .if1 .left)) (c .before .if2 .taken) (c .closed-piece .result) (c .closed-piece .ensures)
+    quoted-closed (now (s .args .text)) (s .args .at) (s .args .kind) (s .args .opening) (s .pre) (ne-eqb _ _ (e .if1 .left)) (c .before .if2 .taken) (c .closed-piece .result) (c .closed-piece .ensures)
 
 one-requires : tie.Need-one-requires
 one-requires c κs = search needs
