@@ -4,6 +4,7 @@ use Prim.Native.Nat.{ℕ, _-_, _≤_, _<_}
 use native.Mathlib.Omega.{arith}
 use mathlib.Core.List.{List}
 use lib.ListN.{length, take, getD}
+use lib.Seq.{length-take-le}
 use borrow.Author.Tests.{lt-ltb, le-ltb}
 use Rattle.lines.specs.Bytes.{Bytes}
 use Rattle.lines.specs.Answers.{Outcome, accepted, refused}
@@ -12,6 +13,7 @@ use Rattle.lines.proofs.Buffers.{take-filled, length-filled}
 use Rattle.items.specs.Write.{written, itemsIn, writeIn}
 use Rattle.items.specs.Answers.{numberOf, placeOf, counted, bytesAfter, endsAfter, Splits}
 use Rattle.items.specs.Laws.{LaidAgain, WriteHas}
+use Rattle.items.specs.Write.{lastEnd}
 use Rattle.items.specs.declared.error.Error.{Error}
 use Rattle.items.specs.declared.error.Error.the-variants.{ShortBuffer}
 use Rattle.items.specs.declared.splitter.SplitAnswer.{SplitAnswer}
@@ -20,8 +22,9 @@ use Rattle.items.proofs.Laws.{cut-is-laid-again, write-is-accepted, accepted-wr
 use Rattle.item_writer.specs.Answers.{writeMeans, measured, textAfter, Writes}
 use Rattle.item_writer.specs.declared.writer.WriteAnswer.{WriteAnswer}
 use Rattle.item_writer.specs.declared.writer.WriteAnswer.the-variants.{Accepted as WriteAccepted, Refused as WriteRefused}
-use Rattle.claims.specs.RoundTrip.{Lent, WriteAccepts, Back, SplitComesBack, tripIn, tripCounts, bytesBack, endsBack, Trip, ErrorOf}
-use Rattle.claims.proofs.ListBack.{accepted-lent, text-splits, length-back}
+use Rattle.claims.specs.RoundTrip.{Lent, WriteAccepts, Back, SplitComesBack, tripIn, tripCounts, bytesBack, endsBack, Trip}
+use Rattle.claims.specs.Steps.{ErrorOf}
+use Rattle.claims.proofs.ListBack.{accepted-lent, text-splits, length-back, list-again}
 
 -- ---- from what the calls promise
 
@@ -42,10 +45,18 @@ back-from : (bytes : Bytes) (ends : List ℕ) → Lent bytes ends → (b : Bytes
 back-from bytes ends l b e r b' e' h k s =
     let o = text-splits bytes ends l (length b) (length e) h k in
     let a : LaidAgain bytes ends = cut-is-laid-again bytes ends (l .fit) in
+    let n : length (take (lastEnd 0 ends) bytes) ≡ lastEnd 0 ends = length-take-le (lastEnd 0 ends) bytes (a .inside) in
+    let bytes-are : b' ≡ filled (take (lastEnd 0 ends) bytes) b =
+    s .bytes-after ∙ ap (λ (x : Outcome (List Bytes)). bytesAfter x b) o ∙ rw (a .bytes) in
+    let ends-are : e' ≡ filled ends e = s .ends-after ∙ ap (λ (x : Outcome (List Bytes)). endsAfter x e) o ∙ rw (a .ends-again) in
+    let bytes-front : take (lastEnd 0 ends) b' ≡ take (lastEnd 0 ends) bytes =
+    ap (λ (i : ℕ). take i b') (sym n) ∙ ap (take (length (take (lastEnd 0 ends) bytes))) bytes-are ∙ take-filled (take (lastEnd 0 ends) bytes) b in
+    let ends-front : take (length ends) e' ≡ ends = ap (take (length ends)) ends-are ∙ take-filled ends e in
     record {
       accepted-with = s .answer ∙ ap counted o ∙ rw (a .count, length-back bytes ends a);
-      bytes-back = s .bytes-after ∙ ap (λ (x : Outcome (List Bytes)). bytesAfter x b) o ∙ rw (a .bytes);
-      ends-back = s .ends-after ∙ ap (λ (x : Outcome (List Bytes)). endsAfter x e) o ∙ rw (a .ends-again);
+      bytes-back = bytes-are;
+      ends-back = ends-are;
+      list-back = ap (λ (x : Bytes). itemsIn x (take (length ends) e')) bytes-front ∙ ap (itemsIn (take (lastEnd 0 ends) bytes)) ends-front ∙ list-again bytes ends a;
     }
 
 pub split-comes-back : SplitComesBack

@@ -1,5 +1,7 @@
 -- the round trip of a list: over the definitions, over what the calls promise, and of one function
 pub mod ListBack
 pub mod CallsBack
--- what specs/RoundTrip.antt states
+-- wrong programs that the promises rule out
+pub mod Excluded
+-- what specs/RoundTrip.antt and specs/Excluded.antt state
 pub mod Claims

@@ -14,7 +14,7 @@ use Rattle.lines.proofs.Bools.{both, and-left, and-right, not-true, any-all, al
 use Rattle.items.specs.Split.{splitIn, bytesOf}
 use Rattle.items.specs.Write.{written, itemsIn, nul, lastEnd}
 use Rattle.items.specs.Laws.{LaidAgain, WriteHas}
-use Rattle.items.proofs.Laws.{round-trip, cut-is-laid-again, space-is-enough}
+use Rattle.items.proofs.Laws.{round-trip, cut-is-laid-again, laid-is-cut-again, space-is-enough}
 use Rattle.claims.specs.RoundTrip.{Lent}
 
 -- ---- bytes
@@ -76,3 +76,9 @@ text-splits bytes ends l b e h k =
 -- as many bytes as up to the last end
 pub length-back : (bytes : Bytes) (ends : List ℕ) → LaidAgain bytes ends → length (bytesOf (itemsIn bytes ends)) ≡ lastEnd 0 ends
 length-back bytes ends l = ap length (l .bytes) ∙ length-take-le (lastEnd 0 ends) bytes (l .inside)
+
+-- the items that the same ends cut out of these bytes
+pub list-again : (bytes : Bytes) (ends : List ℕ) → LaidAgain bytes ends → itemsIn (take (lastEnd 0 ends) bytes) ends ≡ itemsIn bytes ends
+list-again bytes ends l =
+    let i = itemsIn bytes ends in
+    ap (λ (x : Bytes). itemsIn x ends) (sym (l .bytes)) ∙ ap (itemsIn (bytesOf i)) (sym (l .ends-again)) ∙ laid-is-cut-again i .1

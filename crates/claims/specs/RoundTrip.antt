@@ -14,8 +14,6 @@ use Rattle.items.specs.Laws.{Writable}
 use Rattle.items.specs.declared.splitter.SplitAnswer.{SplitAnswer}
 use Rattle.item_writer.specs.Answers.{writeMeans, textAfter, Writes}
 use Rattle.item_writer.specs.declared.writer.WriteAnswer.{WriteAnswer}
-use Rattle.item_writer.specs.declared.writer.WriteAnswer.the-variants.{Accepted, Refused}
-use Rattle.items.specs.declared.error.Error.{Error}
 
 -- ---- from what the calls promise
 
@@ -29,17 +27,20 @@ pub record WriteLeaves (bytes : Bytes) (ends : List ℕ) (w : WriteAnswer) (out'
   pub accepted-with : writeMeans w ≡ accepted (length (written (itemsIn bytes ends)))
   pub text : take (length (written (itemsIn bytes ends))) out' ≡ written (itemsIn bytes ends)
 
+-- so it is for every list that can be written, whatever the buffer held
 abbrev pub WriteAccepts : Type 0
 WriteAccepts = (bytes : Bytes) (ends : List ℕ) (out : Bytes) (w : WriteAnswer) (out' : Bytes)
     → Lent bytes ends → 4096 ≤ length out → Writes bytes ends out w out' → WriteLeaves bytes ends w out'
 
--- The split call is accepted with the number of ends, and the bytes and the ends come back; the rest stays.
+-- The split call is accepted with the number of ends; the bytes and the ends come back, and so does the list that
+-- they are; the rest stays.
 pub record Back (bytes : Bytes) (ends : List ℕ) (b : Bytes) (e : List ℕ) (r : SplitAnswer) (b' : Bytes) (e' : List ℕ) : Type 0 where
   pub accepted-with : splitMeans r ≡ accepted (record { items = length ends; bytes = lastEnd 0 ends })
   pub bytes-back : b' ≡ filled (take (lastEnd 0 ends) bytes) b
   pub ends-back : e' ≡ filled ends e
+  pub list-back : itemsIn (take (lastEnd 0 ends) b') (take (length ends) e') ≡ itemsIn bytes ends
 
--- of the text that the write call left, as long as its answer says
+-- splitting the text that the write call left, as long as its answer says, gives the list back
 abbrev pub SplitComesBack : Type 0
 SplitComesBack = (bytes : Bytes) (ends : List ℕ) (out : Bytes) (w : WriteAnswer) (out' : Bytes)
     → Lent bytes ends → 4096 ≤ length out → Writes bytes ends out w out'
@@ -50,9 +51,10 @@ SplitComesBack = (bytes : Bytes) (ends : List ℕ) (out : Bytes) (w : WriteAnswe
 -- ---- one function that makes both calls
 
 -- what it answers: 1 where one of the three buffers is too short, else what writing answers
-unfoldable pub tripIn : (out b e : ℕ) → Bytes → List ℕ → Outcome Bytes
+unfoldable pub tripIn : (outSize backSize endsSize : ℕ) → Bytes → List ℕ → Outcome Bytes
 unfolding writeIn
-tripIn out b e bytes ends = cond (ltb b 4096 || ltb e 256) (refused 1 0) (writeIn out bytes ends)
+tripIn outSize backSize endsSize bytes ends =
+    cond (ltb backSize 4096 || ltb endsSize 256) (refused 1 0) (writeIn outSize bytes ends)
 
 -- the counts of what came back
 abbrev pub tripCounts : List ℕ → Outcome Bytes → Outcome Counts
@@ -70,14 +72,10 @@ endsBack ends (accepted t) d = filled ends d
 endsBack ends (refused n p) d = d
 
 -- The promise of `write_then_split`: where writing accepts the list, the text stands in one buffer, and the bytes and
--- ends of the list have come back in the others; the rest stays. A refused call changes nothing.
+-- ends of the list have come back in the others; the rest stays. A refused call changes nothing. That it is `split`
+-- which gives them back is `SplitComesBack`.
 pub record Trip (bytes : Bytes) (ends : List ℕ) (out b : Bytes) (e : List ℕ) (r : SplitAnswer) (out' b' : Bytes) (e' : List ℕ) : Type 0 where
   pub answer : splitMeans r ≡ tripCounts ends (tripIn (length out) (length b) (length e) bytes ends)
   pub out-after : out' ≡ textAfter (tripIn (length out) (length b) (length e) bytes ends) out
   pub bytes-after : b' ≡ bytesBack bytes ends (tripIn (length out) (length b) (length e) bytes ends) b
   pub ends-after : e' ≡ endsBack ends (tripIn (length out) (length b) (length e) bytes ends) e
-
--- the error of a refused write call
-abbrev pub ErrorOf : WriteAnswer → Error → Type 0
-ErrorOf (Accepted n) e = Unit {0}
-ErrorOf (Refused d) e = e ≡ d

@@ -2,7 +2,8 @@
 use item_writer::WriteAnswer;
 use items::Error;
 use items::SplitAnswer;
-ghost use Rattle.claims.specs.RoundTrip.{Trip, ErrorOf};
+ghost use Rattle.claims.specs.RoundTrip.{Trip};
+ghost use Rattle.claims.specs.Steps.{ErrorOf};
 
 // The error of a refused call. It is never asked of an accepted one.
 fn write_error(w: WriteAnswer) -> Error

@@ -15,7 +15,7 @@ use Rattle.lines.specs.Laws.{All}
 use Rattle.lines.proofs.Bools.{neq-byte}
 use Rattle.items.specs.Pieces.{Piece, plain, escaped, backslash, quote, piecesFrom}
 use Rattle.items.specs.Split.{item, withBytes, withEscape, bareItem, closedItem, quotedItem}
-use Rattle.items.specs.Laws.{Element, itself, escaping, spelt, meant, Gives, BareElement, QuotedElement, allSpelt, allMeant}
+use Rattle.items.specs.Grammar.{Element, itself, escaping, spelt, meant, Gives, BareElement, QuotedElement, allSpelt, allMeant}
 use Rattle.items.proofs.PieceLaws.{pieces-nil, pieces-plain, pieces-escape}
 
 -- ---- one element

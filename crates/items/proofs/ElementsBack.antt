@@ -15,7 +15,7 @@ use Rattle.lines.proofs.Bools.{by-cases, impossible}
 use Rattle.items.specs.Escapes.{Escaped, escape}
 use Rattle.items.specs.Pieces.{Piece, plain, escaped, blankPiece, backslash, quote, behind, piecesFrom}
 use Rattle.items.specs.Split.{Step, item, end, refusal, withBytes, withEscape, bareItem, closedItem, quotedItem}
-use Rattle.items.specs.Laws.{Element, itself, escaping, spelt, meant, BareElement, QuotedElement, allSpelt, allMeant}
+use Rattle.items.specs.Grammar.{Element, itself, escaping, spelt, meant, BareElement, QuotedElement, allSpelt, allMeant}
 use Rattle.items.proofs.Escaping.{escape-gives}
 use Rattle.items.proofs.PieceLaws.{pieces-nil, pieces-refused}
 use Rattle.items.proofs.Elements.{OnePiece, element-piece, parts, closed-end}

@@ -16,7 +16,7 @@ use Rattle.lines.specs.Utf8.{encoded}
 use Rattle.lines.specs.Answers.{Outcome, accepted, refused}
 use Rattle.lines.proofs.Bools.{by-cases, and-left, clash}
 use Rattle.items.specs.Escapes.{Escaped, letters, byteOf, digitOf, number, oneByte, codePoint, numeric, digitEscape, letterEscape, escape}
-use Rattle.items.specs.Laws.{Gives}
+use Rattle.items.specs.Grammar.{Gives}
 
 -- ---- numbers
 

@@ -13,7 +13,7 @@ use Rattle.lines.specs.Answers.{Outcome, accepted, refused}
 use Rattle.lines.proofs.Bools.{by-cases, clash, impossible, and-left, and-right, both, any-all}
 use Rattle.items.specs.Pieces.{Piece, quote, piecesFrom, pieces}
 use Rattle.items.specs.Split.{Step, item, end, refusal, bareItem, quotedItem, pastBlanks, begun, step, withItem, collected, itemsOf, forbidden, firstForbidden, splitOf}
-use Rattle.items.specs.Laws.{Element, BareElement, QuotedElement, allSpelt, Spelling, bare, quoted, SoundItem, itemSpelt, itemMeant, Spelled}
+use Rattle.items.specs.Grammar.{Element, BareElement, QuotedElement, allSpelt, Spelling, bare, quoted, SoundItem, itemSpelt, itemMeant, Spelled}
 use Rattle.items.proofs.StepLaws.{step-end, step-blank, step-quote, step-bare}
 use Rattle.items.proofs.Elements.{parts}
 use Rattle.items.proofs.Listed.{Listed, none-listed, blank-before, item-before, listed-spelled}

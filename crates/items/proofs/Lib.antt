@@ -16,9 +16,7 @@ pub mod WrittenBack
 pub mod LaidOut
 -- the verdicts on calls
 pub mod Verdicts
--- what specs/Laws.antt states
-pub mod Laws
--- the bench cases
+-- the bench cases, and the readings
 pub mod Bench
 -- the code: escapes, the pieces of an item, an item, a step, all items, a call
 pub mod Digits
@@ -30,3 +28,6 @@ pub mod StepCases
 pub mod Forbidden
 pub mod SplitLoop
 pub mod SplitCalls
+-- sizes, and what specs/Laws.antt states
+pub mod SplitSize
+pub mod Laws

@@ -10,7 +10,7 @@ use Rattle.lines.specs.Bytes.{Bytes, blank, all}
 use Rattle.lines.specs.Laws.{All}
 use Rattle.lines.proofs.Bools.{both, impossible}
 use Rattle.items.specs.Split.{forbidden}
-use Rattle.items.specs.Laws.{itself, escaping, Spelling, bare, quoted, SoundItem, itemSpelt, itemMeant, Spaced, SoundSpaced, Parted, textOf, itemsMeant, Spelled}
+use Rattle.items.specs.Grammar.{itself, escaping, Spelling, bare, quoted, SoundItem, itemSpelt, itemMeant, Spaced, SoundSpaced, Parted, textOf, itemsMeant, Spelled}
 use Rattle.items.proofs.Elements.{parts}
 use Rattle.items.proofs.StepLaws.{quote-blank}
 

@@ -14,7 +14,7 @@ use Rattle.lines.specs.Laws.{All}
 use Rattle.lines.proofs.Bools.{and-left, and-right, any-all}
 use Rattle.items.specs.Pieces.{piecesFrom, pieces}
 use Rattle.items.specs.Split.{item, step, collected, itemsOf, forbidden, splitOf}
-use Rattle.items.specs.Laws.{itself, escaping, allSpelt, Spelling, bare, quoted, SoundItem, itemSpelt, itemMeant, Spaced, SoundSpaced, Parted, textOf, itemsMeant, Spelled}
+use Rattle.items.specs.Grammar.{itself, escaping, allSpelt, Spelling, bare, quoted, SoundItem, itemSpelt, itemMeant, Spaced, SoundSpaced, Parted, textOf, itemsMeant, Spelled}
 use Rattle.items.proofs.StepLaws.{step-end, step-blank, step-quote, step-bare}
 use Rattle.items.proofs.Elements.{parts, bare-elements, quoted-elements}
 

@@ -11,7 +11,8 @@ use Rattle.lines.specs.Answers.{Outcome, accepted}
 use Rattle.lines.proofs.Bools.{by-cases, impossible, clash, and-left, and-right, both, all-append}
 use Rattle.items.specs.Split.{bytesOf, splitOf}
 use Rattle.items.specs.Write.{isBare, inQuotes, writtenItem, written}
-use Rattle.items.specs.Laws.{Element, BareElement, QuotedElement, allSpelt, Spelling, bare, quoted, SoundItem, itemSpelt, itemMeant, Spelled, Writable}
+use Rattle.items.specs.Grammar.{Element, BareElement, QuotedElement, allSpelt, Spelling, bare, quoted, SoundItem, itemSpelt, itemMeant, Spelled}
+use Rattle.items.specs.Laws.{Writable}
 use Rattle.items.proofs.Elements.{parts}
 use Rattle.items.proofs.SpelledItems.{spelled-splits}
 use Rattle.items.proofs.Listed.{Listed, none-listed, blank-before, item-before, listed-spelled}

@@ -16,7 +16,7 @@ use Rattle.items.specs.Escapes.{Escaped, escape}
 use Rattle.items.specs.Pieces.{backslash, quote}
 use Rattle.items.specs.Split.{forbidden}
 use Rattle.items.specs.Write.{bareByte, writtenByte, inQuotes}
-use Rattle.items.specs.Laws.{Element, itself, escaping, spelt, meant, BareElement, QuotedElement, allSpelt, allMeant}
+use Rattle.items.specs.Grammar.{Element, itself, escaping, spelt, meant, BareElement, QuotedElement, allSpelt, allMeant}
 use Rattle.items.proofs.Escaping.{escape-gives}
 use Rattle.items.proofs.EachByte.{each-byte}
 

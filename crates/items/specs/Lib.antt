@@ -5,9 +5,11 @@ pub mod Split
 pub mod Write
 -- what the public functions answer
 pub mod Answers
--- the bench cases
+-- the bench cases, and the readings
 pub mod Bench
+pub mod Readings
 -- what is known of the definitions
+pub mod Grammar
 pub mod Laws
 -- cited by no public promise
 pub mod Steps
