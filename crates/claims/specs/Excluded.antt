@@ -1,5 +1,6 @@
--- Wrong programs that no edit of the code can be, and that the promises rule out: what every call owes for two texts,
--- so that it can neither refuse everything, nor give one answer for all texts, nor leave its buffers unfilled.
+-- Wrong programs that the promises rule out, and that are no small edit of the code: what every call owes for two
+-- texts and for two lists, so that it can neither refuse everything, nor give one answer for all, nor leave its
+-- buffers unfilled.
 use mathlib.Core.Path.{_≡_}
 use Prim.Native.Nat.{ℕ, _≤_}
 use mathlib.Core.List.{List, [], _∷_}

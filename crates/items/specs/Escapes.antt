@@ -29,7 +29,7 @@ controlLetters =
     record { letter = code "v"; byte = 0x0B } ∷
     []
 
--- \\ and \", which the writer uses too
+-- \\ and \", read and written like the seven
 abbrev pub signLetters : List Letter
 signLetters =
     record { letter = code "\\"; byte = 0x5C } ∷

@@ -20,7 +20,7 @@ SpelledSplits = (t : Bytes) (xs : List Bytes) → Spelled t xs → splitOf t ≡
 abbrev pub SplitIsSpelled : Type 0
 SplitIsSpelled = (t : Bytes) (xs : List Bytes) → splitOf t ≡ accepted xs → Spelled t xs
 
--- what is accepted fits the buffers: no more bytes than the text has, and at most 256 items
+-- What is accepted fits the buffers: no more bytes than the text has, which are at most 4,096, and at most 256 items.
 abbrev pub SplitFits : Type 0
 SplitFits = (t : Bytes) (xs : List Bytes) → splitOf t ≡ accepted xs → (length (bytesOf xs) ≤ length t) × (length xs ≤ 256)
 

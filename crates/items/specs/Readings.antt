@@ -1,4 +1,4 @@
--- Readings of the rules, as cases: what docs/DECISIONS.md says in words. Proved by computing.
+-- Some readings of the rules, as cases. Proved by computing.
 use mathlib.Core.Path.{_≡_}
 use Prim.Native.Nat.{ℕ}
 use mathlib.Core.List.{List, [], _∷_}
@@ -15,7 +15,7 @@ pub record SplitReading : Type 0 where
   pub outcome : Outcome (List Bytes)
 
 -- no item; a control byte; an open quote; a fault before the end; a closing quote and a backslash; a quote behind an
--- escape; digits that are missing or none, and numbers that are not allowed; what is data
+-- escape; digits that are missing, bytes that are no digits, and numbers that are not allowed; what is data
 abbrev pub splitReadings : List SplitReading
 splitReadings =
     record { text = bytes ""; outcome = accepted [] } ∷

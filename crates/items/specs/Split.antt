@@ -90,7 +90,7 @@ collected (item x ps) rest = withItem x (rest ps)
 collected end rest = accepted []
 collected (refusal n p) rest = refused n p
 
--- The items of pieces, at most n. With n = 0 a step finds the end or 26, so that what follows an item is not asked.
+-- The items of pieces, at most n. With n = 0 a step finds the end or 26, so the function for the rest is never used.
 unfoldable pub itemsOf : ℕ → List Piece → Outcome (List Bytes)
 unfolding step collected
 itemsOf zero ps = collected (step zero ps) (λ rest. accepted [])

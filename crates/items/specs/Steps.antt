@@ -32,7 +32,7 @@ use Rattle.items.specs.declared.splitter.SplitAnswer.the-variants.{Accep
 
 -- ---- escapes
 
--- what a letter gives; 0 stands for none
+-- a byte or a letter; 0 stands for none
 abbrev pub letterMeans : ℕ → Option ℕ
 letterMeans b = cond (eqb b 0) none (some b)
 

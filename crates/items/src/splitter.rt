@@ -64,7 +64,7 @@ fn first_forbidden(text: &[u8]) -> usize
 
 // ---- an item
 
-// Puts one to four bytes into a buffer from an index on.
+// Puts up to four bytes into a buffer from an index on.
 fn store(buffer: &mut [u8], at: usize, bytes: Few)
     requires { ⌜ (bytes .count ≤ 4) × (at + bytes .count ≤ length (now buffer)) ⌝ }
     ensures { λ r. ⌜ now (buffer .exit) ≡ put (now (buffer .entry)) at (fewBytes bytes) ⌝ }
@@ -126,7 +126,7 @@ fn past_blanks(text: &[u8], start: usize) -> usize
     at
 }
 
-// The next item, where `more` further ones may come.
+// The next item, where `more` items may still come.
 fn next_item(text: &[u8], more: usize, start: usize, buffer: &mut [u8], used: usize) -> Step
     requires { ⌜ (length (now text) ≤ length (now buffer)) × (start ≤ length (now text)) × (used ≤ start) ⌝ }
     ensures { λ r. ⌜ StepTaken (now (text .entry)) (step more (piecesAt (now (text .entry)) start)) used (now (buffer .entry)) (now (buffer .exit)) r ⌝ }
