@@ -2,23 +2,15 @@
 -- index of a loop.
 use mathlib.Core.Path.{_≡_}
 use Prim.Native.Nat.{ℕ, _+_, _-_, _<_}
-use mathlib.Core.Bool.{Bool, _&&_, _||_}
+use mathlib.Core.Bool.{_&&_}
 use mathlib.Core.List.{List, _∷_}
 use lib.ListN.{length, take, drop, getD}
 use lib.Dec.{leb}
-use Rattle.lines.specs.Bytes.{Bytes, all, any}
+use Rattle.lines.specs.Bytes.{Bytes}
 use Rattle.lines.proofs.Slices.{opened}
 use Rattle.items.specs.Write.{endsFit, cutFrom, lastEnd}
 
 module _ (l : List ℕ) (i : ℕ) (h : i < length l) where
-  pub any-here : (p : ℕ → Bool) → any p (drop i l) ≡ (p (getD l i 0) || any p (drop (i + 1) l))
-  unfolding any
-  any-here p = rw (opened l i h)
-
-  pub all-here : (p : ℕ → Bool) → all p (drop i l) ≡ (p (getD l i 0) && all p (drop (i + 1) l))
-  unfolding all
-  all-here p = rw (opened l i h)
-
   pub fit-here : (at n : ℕ)
       → endsFit at n (drop i l) ≡ (leb at (getD l i 0) && leb (getD l i 0) n && endsFit (getD l i 0) n (drop (i + 1) l))
   unfolding endsFit

@@ -22,7 +22,6 @@ pub mod Bench
 pub mod Digits
 pub mod EscapeSteps
 pub mod PieceSteps
-pub mod Stores
 pub mod ItemLoop
 pub mod StepCases
 pub mod Forbidden

@@ -1,17 +1,16 @@
 -- A call of `split`, by its answer: each refusal, and the items that were read and copied.
 use mathlib.Core.Path.{_≡_, sym, ap, subst, _∙_}
 use Prim.Native.Nat.{ℕ, _+_, _-_, _≤_, _<_}
-use native.Mathlib.Nat.{zero-add}
 use native.Mathlib.Omega.{arith}
 use mathlib.Core.Bool.{cond}
 use mathlib.Core.List.{List}
 use lib.Dec.{leb}
-use lib.ListN.{length, take, length-take}
-use borrow.Author.Tests.{lt-ltb, le-ltb, le-leb}
+use lib.ListN.{length, take}
+use borrow.Author.Tests.{lt-ltb, le-ltb}
 use Rattle.lines.specs.Bytes.{Bytes}
 use Rattle.lines.specs.Answers.{Outcome, refused}
-use Rattle.lines.specs.Buffers.{put, filled}
-use Rattle.lines.proofs.Buffers.{take-filled}
+use Rattle.lines.specs.Buffers.{put}
+use Rattle.lines.proofs.Buffers.{front-copied}
 use Rattle.items.specs.Pieces.{pieces}
 use Rattle.items.specs.Split.{firstForbidden, itemsOf, splitOf, splitIn, bytesOf, endsFrom}
 use Rattle.items.specs.Answers.{numberOf, placeOf, splitMeans, counted, bytesAfter, endsAfter, SplitLeaves, Splits}
@@ -41,32 +40,22 @@ apart-refused o b b' e e' r k q h bytes ends =
       ends-after = sym (ap (λ (x : Outcome (List Bytes)). endsAfter x ends) f);
     }
 
--- the front of a buffer that was filled
-front : {A : Type 0} (xs d : List A) (n : ℕ) → n ≡ length xs → take (n - 0) (filled xs d) ≡ xs
-front xs d n e =
-    let k : n - 0 ≡ length xs = omega arith in
-    rw k (take-filled xs d)
-
--- numbers that are copied are no more than there were
-pub front-fits : (n : ℕ) (l e : List ℕ) → length l ≤ length e → length (take n l) ≤ length e
-front-fits n l e h = omega (arith, length-take n l)
-
 -- items that were read are copied
 pub apart-copied : (o : Outcome (List Bytes)) (b b' : Bytes) (e e' : List ℕ) (n m : ℕ)
-    → AllRead o n m b b' e e' → (bytes bytes' : Bytes) (ends ends' : List ℕ) → 4096 ≤ length bytes
+    → AllRead o n m b b' e e' → (bytes bytes' : Bytes) (ends ends' : List ℕ) → 4096 ≤ length bytes → 256 ≤ length ends
     → bytes' ≡ cond (leb (0 + length (take (m - 0) b')) (length bytes)) (put bytes 0 (take (m - 0) b')) bytes
-    → ends' ≡ filled (take (n - 0) e') ends
+    → ends' ≡ cond (leb (0 + length (take (n - 0) e')) (length ends)) (put ends 0 (take (n - 0) e')) ends
     → SplitLeaves o bytes ends (Accepted n m) bytes' ends'
-apart-copied o b b' e e' n m h bytes bytes' ends ends' l p w =
-    let x : take (m - 0) b' ≡ bytesOf (h .items) = ap (take (m - 0)) (h .bytes-are) ∙ front (bytesOf (h .items)) b m (h .size-is) in
-    let y : take (n - 0) e' ≡ endsFrom 0 (h .items) = ap (take (n - 0)) (h .ends-are) ∙ front (endsFrom 0 (h .items)) e n (h .count-is ∙ sym (ends-length 0 (h .items))) in
-    let z : 0 + length (bytesOf (h .items)) ≤ length bytes = omega (arith, h .fits, h .size-is) in
+apart-copied o b b' e e' n m h bytes bytes' ends ends' l k p q =
     record {
       answer = rw (h .count-is, h .size-is) (sym (ap counted (h .outcome)));
       bytes-after =
-          p ∙ rw (x, le-leb (0 + length (bytesOf (h .items))) (length bytes) z, zero-add)
-          (sym (ap (λ (k : Outcome (List Bytes)). bytesAfter k bytes) (h .outcome)));
-      ends-after = w ∙ rw y (sym (ap (λ (k : Outcome (List Bytes)). endsAfter k ends) (h .outcome)));
+          front-copied (bytesOf (h .items)) b b' bytes bytes' m (h .bytes-are) (h .size-is) (omega (arith, h .fits)) p
+          ∙ sym (ap (λ (x : Outcome (List Bytes)). bytesAfter x bytes) (h .outcome));
+      ends-after =
+          front-copied (endsFrom 0 (h .items)) e e' ends ends' n (h .ends-are) (h .count-is ∙ sym (ends-length 0 (h .items)))
+          (omega (arith, h .few)) q
+          ∙ sym (ap (λ (x : Outcome (List Bytes)). endsAfter x ends) (h .outcome));
     }
 
 -- ---- the call

@@ -9,7 +9,7 @@ use lines::is_blank;
 ghost use mathlib.Core.Path.{_≡_};
 ghost use Prim.Native.Nat.{_+_, _≤_, _<_};
 ghost use lib.ListN.{length};
-ghost use Rattle.lines.specs.Buffers.{put, filled};
+ghost use Rattle.lines.specs.Buffers.{put};
 ghost use Rattle.items.specs.Pieces.{pieces};
 ghost use Rattle.items.specs.Split.{forbidden, firstForbidden, step, itemsOf};
 ghost use Rattle.items.specs.Answers.{SplitLeaves, Splits};
@@ -173,18 +173,6 @@ fn read_items(text: &[u8], bytes: &mut [u8], ends: &mut [usize]) -> SplitAnswer
     }
 }
 
-// Copies numbers to the front of a buffer.
-fn copy_numbers(from: &[usize], to: &mut [usize])
-    requires { ⌜ length (now from) ≤ length (now to) ⌝ }
-    ensures { λ r. ⌜ now (to .exit) ≡ filled (now (from .entry)) (now (to .entry)) ⌝ }
-{
-    let mut i = 0;
-    while i < from.len() {
-        to[i] = from[i];
-        i += 1;
-    }
-}
-
 // The items of a text by way of buffers of its own, so that a refusal leaves the lent ones as they were.
 fn split_apart(text: &[u8], bytes: &mut [u8], ends: &mut [usize]) -> SplitAnswer
     requires { ⌜ (length (now text) ≤ 4096) × (4096 ≤ length (now bytes)) × (256 ≤ length (now ends)) ⌝ }
@@ -197,7 +185,7 @@ fn split_apart(text: &[u8], bytes: &mut [u8], ends: &mut [usize]) -> SplitAnswer
         return answer;
     };
     lines::copy_into(&scratch[0..length], bytes, 0);
-    copy_numbers(&numbers[0..count], ends);
+    lines::copy_numbers_into(&numbers[0..count], ends, 0);
     answer
 }
 

@@ -1,10 +1,13 @@
 -- Laws of `filled` and `put`: lengths, and what one more part gives. Each cuts the buffer where the part begins and ends.
 use mathlib.Core.Path.{_≡_, refl, sym, ap, _∙_}
 use Prim.Native.Nat.{ℕ, suc, _+_, _-_, _≤_, _<_}
-use native.Mathlib.Nat.{add-zero}
+use native.Mathlib.Nat.{add-zero, zero-add}
 use native.Mathlib.Omega.{arith}
+use mathlib.Core.Bool.{cond}
 use mathlib.Core.List.{List, [], _∷_, _++_, append-assoc, append-nil}
 use lib.ListN.{length, take, drop, set, length-append, length-drop, take-append-drop}
+use lib.Dec.{leb}
+use borrow.Author.Tests.{le-leb}
 use lib.Seq.{take-at, drop-at, set-at, drop-cons, drop-drop, drop-append-add, length-take-le}
 use Rattle.lines.specs.Buffers.{filled, put}
 
@@ -77,3 +80,15 @@ module _ {A : Type 0} where
   put-put d n p q h =
       let e : n + length p ≡ length (take n d ++ p) = sym (length-append (take n d) p ∙ rw (length-take-le n d h)) in
       rw (put-front d n p h, e, filled-put (take n d ++ p) q d, append-assoc (take n d) p q) (sym (put-front d n (p ++ q) h))
+
+  -- what `copy_into` leaves, where the part fits
+  pub copied : (d d' p : List A) (at : ℕ) → at + length p ≤ length d
+      → d' ≡ cond (leb (at + length p) (length d)) (put d at p) d → d' ≡ put d at p
+  copied d d' p at h e = e ∙ rw (le-leb (at + length p) (length d) h)
+
+  -- the front of a buffer that was filled, copied to the front of another
+  pub front-copied : (xs d from to to' : List A) (n : ℕ) → from ≡ filled xs d → n ≡ length xs → n ≤ length to
+      → to' ≡ cond (leb (0 + length (take (n - 0) from)) (length to)) (put to 0 (take (n - 0) from)) to → to' ≡ filled xs to
+  front-copied xs d from to to' n f e h p =
+      let k : n - 0 ≡ length xs = omega arith in
+      p ∙ rw (f, k, take-filled xs d, le-leb (0 + length xs) (length to) (omega arith), zero-add)

@@ -7,7 +7,7 @@ use mathlib.Core.List.{List, [], _∷_}
 use lib.ListN.{length, take, drop}
 use lib.Dec.{leb, ltb}
 use Rattle.lines.specs.Bytes.{Bytes, lineFeeds}
-use Rattle.lines.specs.Lines.{Line, physical, joined}
+use Rattle.lines.specs.Lines.{Line, physical, joined, tooLong}
 use Rattle.lines.specs.Answers.{Outcome, accepted, refused, errorMeans}
 use Rattle.lines.specs.Buffers.{filled}
 use Rattle.lines.specs.declared.joiner.Cursor.{Cursor}
@@ -50,7 +50,7 @@ cursorPast f c l = record {
 -- the next logical line: the first of those that are left; over 4,096 bytes it is refused with 5
 unfoldable pub nextOf : List Line → Outcome (Option Line)
 nextOf [] = accepted none
-nextOf (l ∷ ls) = cond (ltb 4096 (length (l .bytes))) (refused 5 (l .number)) (accepted (some l))
+nextOf (l ∷ ls) = cond (tooLong l) (refused 5 (l .number)) (accepted (some l))
 
 -- the same for a call with a buffer of n bytes; n below 4,096 is refused with 1
 unfoldable pub next : Bytes → Cursor → ℕ → Outcome (Option Line)

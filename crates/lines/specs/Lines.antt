@@ -4,7 +4,7 @@ use mathlib.Core.Bool.{Bool, false, not, _||_, cond}
 use mathlib.Core.Option.{Option, none, some}
 use mathlib.Core.List.{List, [], _∷_, _++_}
 use lib.ListN.{length}
-use lib.Dec.{eqb}
+use lib.Dec.{eqb, ltb}
 use Rattle.lines.specs.Bytes.{Bytes, isLF, all}
 
 -- A physical or a logical line: the number of the (first) physical line that it is made of, its bytes,
@@ -84,6 +84,10 @@ joined [] = []
 joined (l ∷ ls) =
     cond (comment (l .bytes)) (joined ls)
     (cond (continued (l .bytes)) (joinNext l (joined ls)) (l ∷ joined ls))
+
+-- a logical line has at most 4,096 bytes before trimming
+abbrev pub tooLong : Line → Bool
+tooLong l = ltb 4096 (length (l .bytes))
 
 -- the logical lines of a file, before trimming
 unfoldable pub logical : Bytes → List Line

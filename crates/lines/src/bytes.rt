@@ -1,9 +1,9 @@
 // Tests on bytes, and total helpers on slices.
 ghost use mathlib.Core.Path.{_≡_};
-ghost use mathlib.Core.Bool.{cond};
+ghost use mathlib.Core.Bool.{_&&_, cond};
 ghost use Prim.Native.Nat.{_+_, _≤_};
 ghost use lib.ListN.{length};
-ghost use lib.Dec.{leb};
+ghost use lib.Dec.{leb, eqb};
 ghost use Rattle.lines.specs.Bytes.{between, blank, control, letter, digit, keyByte, headerByte, equal};
 ghost use Rattle.lines.specs.Trim.{trimStart, trimEnd, trimmed};
 ghost use Rattle.lines.specs.Buffers.{put};
@@ -77,21 +77,31 @@ pub fn is_header_byte(b: u8) -> bool
 
 // ---- comparison
 
-// Equal byte for byte.
+// Whether texts that were the same so far still are, with one byte more of each.
+fn still_same(before: bool, a: u8, b: u8) -> bool
+    ensures { λ r. ⌜ r ≡ (before && eqb a b) ⌝ }
+{
+    if a == b {
+        return before;
+    }
+    false
+}
+
+// Equal byte for byte. The loop does not end at a difference: so the compiler can take many bytes at a time, and
+// texts with a long common start cost no more than others.
 pub fn same(a: &[u8], b: &[u8]) -> bool
     ensures { λ r. ⌜ r ≡ equal (now (a .entry)) (now (b .entry)) ⌝ }
 {
     if a.len() != b.len() {
         return false;
     }
+    let mut result = true;
     let mut i = 0;
     while i < a.len() {
-        if a[i] != b[i] {
-            return false;
-        }
+        result = still_same(result, a[i], b[i]);
         i += 1;
     }
-    true
+    result
 }
 
 // ---- trimming: the part of a text without the blanks at one end, or at both
@@ -159,5 +169,34 @@ pub fn copy_into(part: &[u8], buffer: &mut [u8], at: usize) -> bool
         return false;
     }
     store(part, buffer, at);
+    true
+}
+
+// The same for numbers.
+fn store_numbers(part: &[usize], buffer: &mut [usize], at: usize)
+    requires { ⌜ at + length (now part) ≤ length (now buffer) ⌝ }
+    ensures { λ r. ⌜ now (buffer .exit) ≡ put (now (buffer .entry)) at (now (part .entry)) ⌝ }
+{
+    let mut i = 0;
+    while i < part.len() {
+        buffer[at + i] = part[i];
+        i += 1;
+    }
+}
+
+pub fn copy_numbers_into(part: &[usize], numbers: &mut [usize], at: usize) -> bool
+    ensures answer { λ r. ⌜ r ≡ leb (at + length (now (part .entry))) (length (now (numbers .entry))) ⌝ }
+    ensures held { λ r. ⌜ now (numbers .exit) ≡
+        cond (leb (at + length (now (part .entry))) (length (now (numbers .entry))))
+        (put (now (numbers .entry)) at (now (part .entry)))
+        (now (numbers .entry)) ⌝ }
+{
+    if numbers.len() < at {
+        return false;
+    }
+    if numbers.len() - at < part.len() {
+        return false;
+    }
+    store_numbers(part, numbers, at);
     true
 }

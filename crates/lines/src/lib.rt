@@ -7,6 +7,7 @@ mod physical;
 mod utf8;
 
 pub use bytes::copy_into;
+pub use bytes::copy_numbers_into;
 pub use bytes::is_between;
 pub use bytes::is_blank;
 pub use bytes::is_control;

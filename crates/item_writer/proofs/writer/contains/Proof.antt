@@ -7,7 +7,7 @@ use lib.Dec.{eqb}
 use denote.Ref.{now}
 use borrow.Author.Tests.{eq-eqb, ne-eqb}
 use Rattle.lines.specs.Bytes.{any}
-use Rattle.item_writer.proofs.Rest.{any-here}
+use Rattle.lines.proofs.Slices.{any-here}
 use borrow.Author.Needs.{needs}
 use Rattle.item_writer.proofs.writer.contains.Statement.{statement}
 use Rattle.item_writer.proofs.writer.contains.Tie as tie

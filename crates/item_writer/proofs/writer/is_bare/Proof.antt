@@ -7,7 +7,7 @@ use denote.Ref.{now}
 use borrow.Author.Tests.{not-true, not-false}
 use Rattle.lines.specs.Bytes.{all}
 use Rattle.items.specs.Write.{bareByte, isBare}
-use Rattle.item_writer.proofs.Rest.{all-here}
+use Rattle.lines.proofs.Slices.{all-here}
 use Rattle.item_writer.proofs.Bare.{bare-none, bare-some}
 use borrow.Author.Needs.{needs}
 use Rattle.item_writer.proofs.writer.is_bare.Statement.{statement}

@@ -1,10 +1,9 @@
 -- `split_apart`: a refusal is handed on, and items that were read are copied.
 use mathlib.Core.Path.{_≡_}
-use Prim.Native.Nat.{_-_}
 use native.Mathlib.Omega.{arith}
 use lib.ListN.{length}
 use denote.Ref.{now}
-use Rattle.items.proofs.SplitCalls.{all-known, apart-refused, apart-copied, front-fits}
+use Rattle.items.proofs.SplitCalls.{all-known, apart-refused, apart-copied}
 use borrow.Author.Needs.{needs}
 use Rattle.items.proofs.splitter.split_apart.Statement.{statement}
 use Rattle.items.proofs.splitter.split_apart.Tie as tie
@@ -39,7 +38,6 @@ part-copy-into-start c = search needs
 part-copy-into-end : tie.Need-part-copy-into-end
 part-copy-into-end c = let a = c .before .before in
     let i = a .before .before .before .before in
-    let s = i .before .before .before .before .before .before in
     let r = i .read-items in
     let h = all-known _ _ (r .last .1 .0) _ (r .last .1 .1 .0) (r .result) (a .answer .given .0 .0) (a .answer .given .0 .1 .0) (a .answer .given .1) (r .ensures) in
     let k : length (r .last .1 .0) ≡ 4096 = search needs in
@@ -48,29 +46,22 @@ part-copy-into-end c = let a = c .before .before in
 copy-into-requires : tie.Need-copy-into-requires
 copy-into-requires c κs = search needs
 
-sub-copy-numbers : tie.Need-sub-copy-numbers
-sub-copy-numbers c = search needs
+sub-copy-numbers-into : tie.Need-sub-copy-numbers-into
+sub-copy-numbers-into c = search needs
 
-part-copy-numbers-start : tie.Need-part-copy-numbers-start
-part-copy-numbers-start c = search needs
+part-copy-numbers-into-start : tie.Need-part-copy-numbers-into-start
+part-copy-numbers-into-start c = search needs
 
-part-copy-numbers-end : tie.Need-part-copy-numbers-end
-part-copy-numbers-end c = let a = c .before .before .before .before .before .before .before .before in
+part-copy-numbers-into-end : tie.Need-part-copy-numbers-into-end
+part-copy-numbers-into-end c = let a = c .before .before .before .before .before .before .before .before in
     let i = a .before .before .before .before in
-    let s = i .before .before .before .before .before .before in
     let r = i .read-items in
     let h = all-known _ _ (r .last .1 .0) _ (r .last .1 .1 .0) (r .result) (a .answer .given .0 .0) (a .answer .given .0 .1 .0) (a .answer .given .1) (r .ensures) in
     let k : length (r .last .1 .1 .0) ≡ 256 = search needs in
     omega (arith, k, h .few)
 
-copy-numbers-requires : tie.Need-copy-numbers-requires
-copy-numbers-requires c κs = let a = c .before .before .before .before .before .before .before .before .before .before in
-    let i = a .before .before .before .before in
-    let s = i .before .before .before .before .before .before in
-    let r = i .read-items in
-    let h = all-known _ _ (r .last .1 .0) _ (r .last .1 .1 .0) (r .result) (a .answer .given .0 .0) (a .answer .given .0 .1 .0) (a .answer .given .1) (r .ensures) in
-    let k : length (r .last .1 .1 .0) ≡ 256 = search needs in
-    front-fits (a .answer .given .0 .0 - 0) (r .last .1 .1 .0) (now (s .args .ends)) (omega (arith, k, s .pre .2))
+copy-numbers-into-requires : tie.Need-copy-numbers-into-requires
+copy-numbers-into-requires c κs = search needs
 
 same-length : tie.Need-same-length
 same-length c = search needs
@@ -84,7 +75,7 @@ returns-2 c = let a = c .before .before .before .before .before .before .before 
     let s = i .before .before .before .before .before .before in
     let r = i .read-items in
     let h = all-known _ _ (r .last .1 .0) _ (r .last .1 .1 .0) (r .result) (a .answer .given .0 .0) (a .answer .given .0 .1 .0) (a .answer .given .1) (r .ensures) in
-    apart-copied _ _ (r .last .1 .0) _ (r .last .1 .1 .0) _ _ h (now (s .args .bytes)) _ (now (s .args .ends)) _ (s .pre .1) (c .before .before .before .before .before .before .before .before .copy-into .ensures .1) (c .before .before .copy-numbers .ensures)
+    apart-copied _ _ (r .last .1 .0) _ (r .last .1 .1 .0) _ _ h (now (s .args .bytes)) _ (now (s .args .ends)) _ (s .pre .1) (s .pre .2) (c .before .before .before .before .before .before .before .before .copy-into .ensures .1) (c .before .before .copy-numbers-into .ensures .1)
 
 pub split-apart-spec : {M : Type 1} → statement M
 split-apart-spec =
@@ -100,10 +91,10 @@ split-apart-spec =
     part-copy-into-start
     part-copy-into-end
     copy-into-requires
-    sub-copy-numbers
-    part-copy-numbers-start
-    part-copy-numbers-end
-    copy-numbers-requires
+    sub-copy-numbers-into
+    part-copy-numbers-into-start
+    part-copy-numbers-into-end
+    copy-numbers-into-requires
     same-length
     same-length-2
     returns-2)

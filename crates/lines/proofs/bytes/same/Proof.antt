@@ -1,41 +1,37 @@
--- `same` compares byte by byte. The invariant: whether the texts are the same is whether what is left of them is.
-use mathlib.Core.Path.{_≡_, refl, sym, _∙_}
+-- `same` compares byte by byte. The invariant: the texts are the same where they were so far and what is left of them is.
+use mathlib.Core.Path.{_≡_, refl, sym}
 use Prim.Native.Nat.{_-_, _≤_}
 use native.Mathlib.Omega.{arith}
+use mathlib.Core.Bool.{_&&_}
 use lib.ListN.{length, drop}
 use denote.Ref.{now}
-use borrow.Author.Needs.{needs}
-use borrow.Author.Tests.{eq-eqb, ne-eqb}
 use Rattle.lines.specs.Bytes.{equal}
 use Rattle.lines.proofs.Bools.{is-false}
-use Rattle.lines.proofs.Comparison.{equal-length, equal-here, equal-done}
+use Rattle.lines.proofs.Comparison.{equal-length, so-far-more, so-far-all}
+use borrow.Author.Needs.{needs}
 use Rattle.lines.proofs.bytes.same.Statement.{statement}
 use Rattle.lines.proofs.bytes.same.Tie as tie
 
 abbrev Inv-loop : tie.InvT-loop
-Inv-loop a b i₀ i = (i ≤ length a) × (equal a b ≡ equal (drop i a) (drop i b))
+Inv-loop a b result₀ i₀ result i = (i ≤ length a) × (equal a b ≡ (result && equal (drop i a) (drop i b)))
 
 abbrev μ-loop : tie.MeasureT-loop
-μ-loop a b i₀ i = length a - i
+μ-loop a b result₀ i₀ result i = length a - i
 
 returns : tie.Need-returns Inv-loop μ-loop
-returns c = sym (is-false _ (λ e. c .if1 .taken (equal-length (now (c .before .args .a)) (now (c .before .args .b)) e)))
+returns c = let a = c .before .before .before .args in sym (is-false _ (λ e. c .if1 .taken (equal-length (now (a .a)) (now (a .b)) e)))
 
 loop-holds : tie.Need-loop-holds Inv-loop μ-loop
 loop-holds c = (omega arith, refl)
 
-shared-slice-read-if2 : tie.Need-shared-slice-read-if2 Inv-loop μ-loop
-shared-slice-read-if2 c = search needs
+shared-slice-read-still-same : tie.Need-shared-slice-read-still-same Inv-loop μ-loop
+shared-slice-read-still-same c = search needs
 
-shared-slice-read-if2-2 : tie.Need-shared-slice-read-if2-2 Inv-loop μ-loop
-shared-slice-read-if2-2 c = search needs
+shared-slice-read-still-same-2 : tie.Need-shared-slice-read-still-same-2 Inv-loop μ-loop
+shared-slice-read-still-same-2 c = search needs
 
-returns-2 : tie.Need-returns-2 Inv-loop μ-loop
-returns-2 c =
-    let l = c .before .before .before .before in
-    let a = l .before .before .args in
-    let e = equal-here (now (a .a)) (now (a .b)) (l .loop .i) (omega arith) (omega arith) in
-    sym (l .loop .inv .1 ∙ e ∙ rw (ne-eqb _ _ (c .if2 .taken)))
+still-same-requires : tie.Need-still-same-requires Inv-loop μ-loop
+still-same-requires c κs = search needs
 
 add-i : tie.Need-add-i Inv-loop μ-loop
 add-i c = search needs
@@ -44,18 +40,14 @@ loop-less : tie.Need-loop-less Inv-loop μ-loop
 loop-less c = search needs
 
 loop-again : tie.Need-loop-again Inv-loop μ-loop
-loop-again c =
-    let l = c .before .before .before .before in
-    let a = l .before .before .args in (
-      omega arith,
-      l .loop .inv .1 ∙ equal-here (now (a .a)) (now (a .b)) (l .loop .i) (omega arith) (omega arith) ∙ rw (eq-eqb _ _ (c .if2 .left)),
-    )
+loop-again c = let l = c .before .before .before .before in
+    let a = l .before .before .before .before .args in
+    (omega arith, so-far-more (now (a .a)) (now (a .b)) (l .loop .i) (l .loop .result) _ (omega arith) (omega arith) (l .loop .inv .1) (c .still-same .ensures))
 
-returns-3 : tie.Need-returns-3 Inv-loop μ-loop
-returns-3 c =
-    let a = c .before .before .before .args in
+returns-2 : tie.Need-returns-2 Inv-loop μ-loop
+returns-2 c = let a = c .before .before .before .before .before .args in
     let l = c .before .loop in
-    sym (l .inv .1 ∙ equal-done (now (a .a)) (now (a .b)) (l .i) (omega arith) (omega arith))
+    so-far-all (now (a .a)) (now (a .b)) (l .i) (l .result) (omega arith) (omega arith) (l .inv .1)
 
 pub same-spec : {M : Type 1} → statement M
 same-spec =
@@ -65,10 +57,10 @@ same-spec =
     μ-loop
     returns
     loop-holds
-    shared-slice-read-if2
-    shared-slice-read-if2-2
-    returns-2
+    shared-slice-read-still-same
+    shared-slice-read-still-same-2
+    still-same-requires
     add-i
     loop-less
     loop-again
-    returns-3)
+    returns-2)
