@@ -1,10 +1,10 @@
 // A text is split.
-use crate::notation;
-use crate::show;
 use items::SplitAnswer;
+use listing::notation;
 use listing::print;
 use listing::print_number;
 use listing::print_refused;
+use listing::show;
 
 // What stands behind `split ` in a line.
 pub(crate) fn case(line: &[u8], buffer: &mut [u8]) {

@@ -1,11 +1,11 @@
 // Items are written, and their text is split again.
-use crate::notation;
-use crate::show;
 use item_writer::WriteAnswer;
 use items::SplitAnswer;
+use listing::notation;
 use listing::print;
 use listing::print_number;
 use listing::print_refused;
+use listing::show;
 
 // What stands behind `write ` in a line.
 pub(crate) fn case(line: &[u8], buffer: &mut [u8]) {

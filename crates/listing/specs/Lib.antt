@@ -1,2 +1,3 @@
--- What `listing` promises of the buffers that it fills.
+-- What `listing` promises of the buffers that it fills or looks at.
 pub mod Texts
+pub mod Kept

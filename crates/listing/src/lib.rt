@@ -1,5 +1,8 @@
-// Prints answers, what the check of a file and its reading line by line give, and the texts of test cases.
+// Prints answers, what the check of a file and its reading line by line give, and the texts of test cases; and reads
+// cases that stand in standard input.
 mod cases;
+pub mod notation;
+pub mod show;
 mod texts;
 
 pub use cases::case;
