@@ -1,0 +1,141 @@
+-- A name looked for among the sections in the buffers: the first pair of numbers whose part is the name has the index
+-- that the definition gives.
+use mathlib.Core.Path.{_≡_, refl, sym, ap, _∙_}
+use Prim.Native.Nat.{ℕ, suc, _+_, _-_, _*_, _≤_, _<_}
+use native.Mathlib.Nat.{zero-add}
+use native.Mathlib.Omega.{arith}
+use mathlib.Core.Bool.{true, false}
+use mathlib.Core.Option.{Option, none, some}
+use mathlib.Core.List.{List, [], _∷_, _++_, append-assoc}
+use lib.ListN.{length, take, drop, getD, length-append}
+use lib.Seq.{take-at, drop-at, drop-cons}
+use borrow.Author.Tests.{le-leb, lt-leb}
+use Rattle.lines.specs.Bytes.{Bytes, equal}
+use Rattle.lines.specs.Buffers.{filled}
+use Rattle.lines.proofs.Bools.{by-cases}
+use Rattle.table.specs.Tables.{Event, newSection, newEntry, names, later, indexOf}
+use Rattle.table.specs.Contents.{textOf, sectionRecord, recordsFrom}
+use Rattle.table.proofs.Events.{Below, index-below}
+use Rattle.table.specs.Steps.{isNamed, firstNamed}
+
+-- ---- one pair
+
+module _ (x text : Bytes) (a n : ℕ) where
+  pub outside-text : length text < a + n → isNamed x text a n ≡ false
+  unfolding isNamed
+  outside-text h = rw (lt-leb (a + n) (length text) h)
+
+  pub inside-text : a + n ≤ length text → isNamed x text a n ≡ equal x (take n (drop a text))
+  unfolding isNamed
+  inside-text h = rw (le-leb (a + n) (length text) h)
+
+-- ---- the loop
+
+-- the index of the pair, with i pairs passed of k
+abbrev pub Looking : (x text : Bytes) (k : ℕ) (ns : List ℕ) (i : ℕ) → Type 0
+Looking x text k ns i = (i ≤ k) × (firstNamed x text k ns ≡ i + firstNamed x text (k - i) (drop (2 * i) ns))
+
+module _ (x text : Bytes) (k : ℕ) (ns : List ℕ) where
+  pub looking-start : Looking x text k ns 0
+  looking-start =
+      let e : k - 0 ≡ k = omega arith in
+      (omega arith, rw e (sym (zero-add _)))
+
+  module _ (i : ℕ) (l : Looking x text k ns i) where
+    -- the pair at an index, and the pairs behind it
+    two : i < k → 2 * k ≤ length ns → drop (2 * i) ns ≡ getD ns (2 * i) 0 ∷ getD ns (2 * i + 1) 0 ∷ drop (2 * (i + 1)) ns
+    two h m =
+        let e : suc (suc (2 * i)) ≡ 2 * (i + 1) = omega arith in
+        let o : suc (2 * i) ≡ 2 * i + 1 = omega arith in
+        drop-cons ns (2 * i) 0 (omega arith)
+        ∙ ap (λ (r : List ℕ). getD ns (2 * i) 0 ∷ r) (drop-cons ns (suc (2 * i)) 0 (omega arith))
+        ∙ rw (e, o)
+
+    here : i < k → 2 * k ≤ length ns
+        → firstNamed x text (k - i) (drop (2 * i) ns)
+        ≡ firstNamed x text (suc (k - (i + 1))) (getD ns (2 * i) 0 ∷ getD ns (2 * i + 1) 0 ∷ drop (2 * (i + 1)) ns)
+    here h m =
+        let e : k - i ≡ suc (k - (i + 1)) = omega arith in
+        rw (two h m, e)
+
+    pub looking-found : i < k → 2 * k ≤ length ns → isNamed x text (getD ns (2 * i) 0) (getD ns (2 * i + 1) 0) ≡ true
+        → i ≡ firstNamed x text k ns
+    unfolding firstNamed
+    looking-found h m e =
+        let q : firstNamed x text (k - i) (drop (2 * i) ns) ≡ 0 = here h m ∙ rw e in
+        omega (arith, l .1, q)
+
+    pub looking-more : i < k → 2 * k ≤ length ns → isNamed x text (getD ns (2 * i) 0) (getD ns (2 * i + 1) 0) ≡ false
+        → Looking x text k ns (i + 1)
+    unfolding firstNamed
+    looking-more h m e =
+        let q : firstNamed x text (k - i) (drop (2 * i) ns) ≡ suc (firstNamed x text (k - (i + 1)) (drop (2 * (i + 1)) ns)) = here h m ∙ rw e in
+        (omega arith, omega (arith, l .1, q))
+
+    pub looking-over : k ≤ i → i ≡ firstNamed x text k ns
+    unfolding firstNamed
+    looking-over h =
+        let e : k - i ≡ 0 = omega arith in
+        let q : firstNamed x text (k - i) (drop (2 * i) ns) ≡ 0 = rw e in
+        omega (arith, l .1, q)
+
+-- ---- the sections of a table
+
+-- an index, or the number of all where there is none
+abbrev pub indexOr : ℕ → Option ℕ → ℕ
+indexOr n none = n
+indexOr n (some i) = i
+
+index-later : (n : ℕ) (o : Option ℕ) → suc (indexOr n o) ≡ indexOr (suc n) (later o)
+index-later n none = refl
+index-later n (some i) = refl
+
+-- the name that stands in the text behind other bytes
+named-part : (x pre y post : Bytes) → isNamed x (pre ++ (y ++ post)) (length pre) (length y) ≡ equal x y
+named-part x pre y post =
+    let l : length (pre ++ (y ++ post)) ≡ length pre + (length y + length post) =
+    length-append pre (y ++ post) ∙ ap (λ (n : ℕ). length pre + n) (length-append y post) in
+    inside-text x (pre ++ (y ++ post)) (length pre) (length y) (omega arith)
+    ∙ rw (drop-at pre (y ++ post) (length pre) refl, take-at y post (length y) refl)
+
+-- the events' text behind other bytes
+search-events : (es : List Event) (x pre post : Bytes) (rest : List ℕ)
+    → firstNamed x (pre ++ (textOf es ++ post)) (length (names es)) (recordsFrom sectionRecord (length pre) es ++ rest)
+    ≡ indexOr (length (names es)) (indexOf x (names es))
+unfolding firstNamed textOf names recordsFrom indexOf
+search-events [] x pre post rest = refl
+search-events (newSection y ∷ es) x pre post rest =
+    let s : pre ++ ((y ++ textOf es) ++ post) ≡ pre ++ (y ++ (textOf es ++ post)) = ap (λ (l : Bytes). pre ++ l) (append-assoc y (textOf es) post) in
+    let p : pre ++ (y ++ (textOf es ++ post)) ≡ (pre ++ y) ++ (textOf es ++ post) = sym (append-assoc pre y (textOf es ++ post)) in
+    by-cases (equal x y)
+    (λ e. rw (s, named-part x pre y (textOf es ++ post), e))
+    (λ e. rw (s, named-part x pre y (textOf es ++ post), e, p, ← length-append pre y, search-events es x (pre ++ y) post rest)
+    (index-later (length (names es)) (indexOf x (names es))))
+search-events (newEntry f ∷ es) x pre post rest =
+    let y : Bytes = f .key ++ f .value in
+    let p : pre ++ ((y ++ textOf es) ++ post) ≡ (pre ++ y) ++ (textOf es ++ post) =
+    ap (λ (l : Bytes). pre ++ l) (append-assoc y (textOf es) post) ∙ sym (append-assoc pre y (textOf es ++ post)) in
+    rw (p, ← length-append pre y) (search-events es x (pre ++ y) post rest)
+
+pub search-table : (es : List Event) (x d : Bytes) (e : List ℕ)
+    → firstNamed x (filled (textOf es) d) (length (names es)) (filled (recordsFrom sectionRecord 0 es) e)
+    ≡ indexOr (length (names es)) (indexOf x (names es))
+search-table es x d e = search-events es x [] (drop (length (textOf es)) d) (drop (length (recordsFrom sectionRecord 0 es)) e)
+
+-- ---- what the index says
+
+-- an index below the number of names is the name's
+pub index-known : (x : Bytes) (ns : List Bytes) (i : ℕ) → i ≡ indexOr (length ns) (indexOf x ns) → i < length ns → indexOf x ns ≡ some i
+index-known x ns i e h = go (indexOf x ns) e
+  where
+    go : (o : Option ℕ) → i ≡ indexOr (length ns) o → o ≡ some i
+    go none q = absurd (omega arith)
+    go (some j) q = rw q
+
+-- any other says that the name is new
+pub index-new : (x : Bytes) (ns : List Bytes) (i : ℕ) → i ≡ indexOr (length ns) (indexOf x ns) → length ns ≤ i → indexOf x ns ≡ none
+index-new x ns i e h = go (indexOf x ns) (index-below ns x) e
+  where
+    go : (o : Option ℕ) → Below (length ns) o → i ≡ indexOr (length ns) o → o ≡ none
+    go none b q = refl
+    go (some j) b q = absurd (omega arith)

@@ -1,0 +1,116 @@
+-- One line more in a table that the buffers hold, by the tests that the code makes.
+use mathlib.Core.Path.{_≡_, refl, sym, ap, _∙_}
+use Prim.Native.Nat.{ℕ, _≤_, _<_}
+use native.Mathlib.Omega.{arith}
+use mathlib.Core.Option.{Option, none, some}
+use mathlib.Core.List.{List}
+use lib.ListN.{length}
+use borrow.Author.Tests.{lt-ltb, le-ltb}
+use Rattle.lines.specs.Bytes.{Bytes}
+use Rattle.lines.specs.Buffers.{filled}
+use Rattle.table.specs.LineKinds.{header, entry}
+use Rattle.table.specs.Tables.{entryIn, newSection, newEntry, Table, with, names, entries, indexOf, opened, added, act}
+use Rattle.table.specs.Contents.{textOf, sectionRecord, entryRecord}
+use Rattle.table.specs.Steps.{firstNamed, currentOf, SectionPut, EntryPut, Held, TakesHeader, TakesEntry}
+use Rattle.table.specs.declared.error.Error.the-variants.{NoSection, TooMany}
+use Rattle.table.specs.declared.state.Current.the-variants.{Outside, Section}
+use Rattle.table.specs.declared.state.State.{State}
+use Rattle.table.specs.declared.state.Step.the-variants.{Go, Refused}
+use Rattle.table.proofs.Search.{indexOr, search-table, index-known, index-new}
+use Rattle.table.proofs.Puts.{numbers-kept, section-held, entry-held}
+
+-- ---- a header
+
+module _ (x : Bytes) (n : ℕ) (s : State) (text : Bytes) (sections : List ℕ) (i : ℕ)
+    (f : i ≡ firstNamed x text (s .sections) sections) where
+  -- the index that was found, for the table that is held
+  found : (t : Table) (d : Bytes) (e : List ℕ) → Held sectionRecord t s d text e sections
+      → i ≡ indexOr (length (names (t .events))) (indexOf x (names (t .events)))
+  found t d e h =
+      f ∙ ap (λ (z : State). firstNamed x text (z .sections) sections) (h .state)
+      ∙ ap (λ (z : Bytes). firstNamed x z (length (names (t .events))) sections) (h .text-is)
+      ∙ ap (λ (z : List ℕ). firstNamed x (filled (textOf (t .events)) d) (length (names (t .events))) z) (h .numbers-are)
+      ∙ search-table (t .events) x d e
+
+  -- it goes on with an earlier section
+  pub header-known : i < s .sections
+      → TakesHeader (header x) n s text sections (Go (record { text = s .text; sections = s .sections; entries = s .entries; current = Section i })) text sections
+  unfolding act opened
+  header-known l t d e h =
+      let c : s .sections ≡ length (names (t .events)) = ap (λ (z : State). z .sections) (h .state) in
+      let k : indexOf x (names (t .events)) ≡ some i = index-known x (names (t .events)) i (found t d e h) (omega arith) in
+      record {
+        table = record { events = t .events; current = some i };
+        outcome = rw k;
+        held = record {
+          state = ap (λ (z : State). record { text = z .text; sections = z .sections; entries = z .entries; current = Section i }) (h .state);
+          text-is = h .text-is;
+          numbers-are = h .numbers-are;
+        };
+        others = refl;
+      }
+
+  -- the 65th section
+  pub header-many : s .sections ≤ i → 64 ≤ s .sections → TakesHeader (header x) n s text sections (Refused (TooMany n)) text sections
+  unfolding act opened
+  header-many l m t d e h =
+      let c : s .sections ≡ length (names (t .events)) = ap (λ (z : State). z .sections) (h .state) in
+      let k : indexOf x (names (t .events)) ≡ none = index-new x (names (t .events)) i (found t d e h) (omega arith) in
+      rw (k, le-ltb (length (names (t .events))) 64 (omega arith))
+
+  -- a new section
+  pub header-new : s .sections ≤ i → s .sections < 64 → (r : State) (text' : Bytes) (sections' : List ℕ)
+      → SectionPut x s text sections r text' sections' → TakesHeader (header x) n s text sections (Go r) text' sections'
+  unfolding act opened
+  header-new l m r text' sections' p t d e h =
+      let c : s .sections ≡ length (names (t .events)) = ap (λ (z : State). z .sections) (h .state) in
+      let k : indexOf x (names (t .events)) ≡ none = index-new x (names (t .events)) i (found t d e h) (omega arith) in
+      record {
+        table = with t (newSection x) (length (names (t .events)));
+        outcome = rw (k, lt-ltb (length (names (t .events))) 64 (omega arith));
+        held = section-held t d e x s text sections h r text' sections' p;
+        others = numbers-kept (t .events) (newSection x) entryRecord refl;
+      }
+
+-- ---- an entry
+
+-- what the section that is open says of the table
+open-in : (o : Option ℕ) (i : ℕ) → Section i ≡ currentOf o → o ≡ some i
+open-in none i q = let z : _≡_ {A = ℕ} 0 1 = cc (q) in absurd (omega arith)
+open-in (some j) i q = let z : i ≡ j = cc (q) in rw z
+
+open-out : (o : Option ℕ) → Outside ≡ currentOf o → o ≡ none
+open-out none q = refl
+open-out (some j) q = let z : _≡_ {A = ℕ} 0 1 = cc (q) in absurd (omega arith)
+
+module _ (k v : Bytes) (n : ℕ) (s : State) (text : Bytes) (numbers : List ℕ) where
+  -- before any header
+  pub entry-outside : s .current ≡ Outside → TakesEntry (entry k v) n s text numbers (Refused (NoSection n)) text numbers
+  unfolding act added
+  entry-outside q t d e h =
+      let o : t .current ≡ none = open-out (t .current) (sym q ∙ ap (λ (z : State). z .current) (h .state)) in
+      rw o
+
+  module _ (i : ℕ) (q : s .current ≡ Section i) where
+    inside : (t : Table) (d : Bytes) (e : List ℕ) → Held entryRecord t s d text e numbers → t .current ≡ some i
+    inside t d e h = open-in (t .current) i (sym q ∙ ap (λ (z : State). z .current) (h .state))
+
+    -- the 513th
+    pub entry-many : 512 ≤ s .entries → TakesEntry (entry k v) n s text numbers (Refused (TooMany n)) text numbers
+    unfolding act added
+    entry-many m t d e h =
+        let c : s .entries ≡ length (entries (t .events)) = ap (λ (z : State). z .entries) (h .state) in
+        rw (inside t d e h, le-ltb (length (entries (t .events))) 512 (omega arith))
+
+    -- one more
+    pub entry-new : s .entries < 512 → s .text ≤ length text → (r : State) (text' : Bytes) (numbers' : List ℕ)
+        → EntryPut i k v s text numbers r text' numbers' → TakesEntry (entry k v) n s text numbers (Go r) text' numbers'
+    unfolding act added
+    entry-new m l r text' numbers' p t d e h =
+        let c : s .entries ≡ length (entries (t .events)) = ap (λ (z : State). z .entries) (h .state) in
+        record {
+          table = with t (newEntry (entryIn i k v)) i;
+          outcome = rw (inside t d e h, lt-ltb (length (entries (t .events))) 512 (omega arith));
+          held = entry-held t d e i k v s text numbers h l r text' numbers' p;
+          others = numbers-kept (t .events) (newEntry (entryIn i k v)) sectionRecord refl;
+        }
