@@ -1,8 +1,10 @@
--- The statements of specs/RoundTrip.antt and specs/Excluded.antt, each by the module that proves it.
+-- The statements of specs/RoundTrip.antt, specs/Excluded.antt and specs/ExcludedReads.antt, each by the module that proves it.
 use Rattle.claims.specs.RoundTrip.{WriteAccepts, SplitComesBack}
 use Rattle.claims.specs.Excluded.{SplitsNothing, SplitsTwo, WritesNothing, WritesTwo}
+use Rattle.claims.specs.ExcludedReads.{ReadsNothing, ReadsTwo, NoOneAnswer, CountsOfTable, RefusalOfFile}
 use Rattle.claims.proofs.CallsBack.{write-accepts, split-comes-back}
 use Rattle.claims.proofs.Excluded.{splits-nothing, splits-two, writes-nothing, writes-two}
+use Rattle.claims.proofs.ExcludedReads.{reads-nothing, reads-two, no-one-answer, counts-of-table, refusal-of-file}
 
 pub list-is-written : WriteAccepts
 list-is-written = write-accepts
@@ -21,3 +23,18 @@ empty-list-is-written = writes-nothing
 
 pub two-items-are-written : WritesTwo
 two-items-are-written = writes-two
+
+pub empty-file-is-read : ReadsNothing
+empty-file-is-read = reads-nothing
+
+pub two-sections-are-read : ReadsTwo
+two-sections-are-read = reads-two
+
+pub no-answer-serves-all : NoOneAnswer
+no-answer-serves-all = no-one-answer
+
+pub counts-are-of-the-table : CountsOfTable
+counts-are-of-the-table = counts-of-table
+
+pub refusals-are-of-the-file : RefusalOfFile
+refusals-are-of-the-file = refusal-of-file

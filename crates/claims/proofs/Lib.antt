@@ -3,5 +3,6 @@ pub mod ListBack
 pub mod CallsBack
 -- wrong programs that the promises rule out
 pub mod Excluded
--- what specs/RoundTrip.antt and specs/Excluded.antt state
+pub mod ExcludedReads
+-- what specs/ states
 pub mod Claims
