@@ -1,39 +1,23 @@
 #!/usr/bin/env python3
 """Writes what the programs are to print: those on lines from here, those on values from expected_values.py, those on
-items from expected_items.py.
+items from expected_items.py, those on tables from expected_table.py.
 
 usage: expected.py [--check]      (--check: only compare with the files that stand)
 
-This follows the rules of document 01 and, for single calls, the joiner's interface in
-docs/DECISIONS.md. It is no translation of the Rattle code, and Python's own strict decoder judges UTF-8.
+This follows the rules of document 01 (for lines they stand in rules_lines.py) and, for single calls, the joiner's
+interface in docs/DECISIONS.md. It is no translation of the Rattle code, and Python's own strict decoder judges UTF-8.
 The hand-made results at the end are asserted first.
 """
 import os
-import re
 import sys
 
 sys.dont_write_bytecode = True  # leaves no __pycache__ in the repository
 import expected_items
+import expected_table
 import expected_values
+from rules_lines import EXAMPLE, logical_lines, refusal
 
 ROOT = os.path.dirname(os.path.dirname(os.path.abspath(__file__)))
-
-
-# ---- the rules
-
-def refusal(file):
-    """The refusal 2, 3 or 4 of a whole file as (number, place), or None."""
-    size = len(file) if not file or file.endswith(b'\n') else len(file) + 1
-    if size > 65535:
-        return 2, 0
-    try:
-        file.decode('utf-8')
-    except UnicodeDecodeError as bad:
-        return 3, 1 + file[:bad.start].count(b'\n')
-    for offset, byte in enumerate(file):
-        if byte == 0x7F or (byte < 0x20 and byte not in b'\t\n'):
-            return 4, 1 + file[:offset].count(b'\n')
-    return None
 
 
 def is_utf8(text):
@@ -46,29 +30,6 @@ def is_utf8(text):
 
 def longest_start(text):
     return max(n for n in range(len(text) + 1) if is_utf8(text[:n]))
-
-
-def is_continued(line):
-    return (len(line) - len(line.rstrip(b'\\'))) % 2 == 1
-
-
-def logical_lines(file, start=0, number=1):
-    """The logical lines from an offset on: (first physical line, bytes, offset just past it)."""
-    found, pending, end = [], None, start
-    for line in re.findall(rb'[^\n]*\n|[^\n]+', file[start:]):
-        end += len(line)
-        text = line.removesuffix(b'\n')
-        if not text.startswith((b'#', b';')):
-            first, before = pending or (number, b'')
-            if is_continued(text):
-                pending = first, before + text[:-1] + b' '
-            else:
-                found.append((first, before + text, end))
-                pending = None
-        number += 1
-    if pending:
-        found.append((*pending, len(file)))
-    return found
 
 
 # ---- what the programs print
@@ -105,28 +66,6 @@ def one_call(file, offset, line, room):
             buffer = text + buffer[len(text):]
             told = b'%d %d, then %d %d' % (first, len(text), end, line + file[offset:end].count(b'\n'))
     return told + b'\n' + buffer[:8] + b'\n'
-
-
-# ---- the man page's example
-
-EXAMPLE = '''\
-[Section A]
-KeyOne=value 1
-KeyTwo=value 2
-
-# a comment
-
-[Section B]
-Setting="something" "some thing" "…"
-KeyTwo=value 2 \\
-       value 2 continued
-
-[Section C]
-KeyThree=value 3\\
-# this line is ignored
-; this line is ignored too
-       value 3 continued
-'''.encode()
 
 
 # ---- the cases: a name and a file, in the order of crates/line_cases
@@ -359,6 +298,7 @@ def main():
         'check_cases/stdout': told(CHECKS, listed, HAND_FILES) + told(TEXTS, started, HAND_TEXTS),
         **expected_values.outputs(),
         **expected_items.outputs(),
+        **expected_table.outputs(),
     }
     assert outputs['logical/stdout'] == HAND_EXAMPLE
     assert not HAND_FILES and not HAND_TEXTS and not HAND_CALLS

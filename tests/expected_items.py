@@ -6,6 +6,8 @@ answer as it was worked out by hand, and the two are held to each other.
 """
 import re
 
+from notation import shown
+
 
 # ---- the rules: splitting
 
@@ -127,16 +129,6 @@ class WriteCase:
         data, ends, _ = self.call
         assert split(text, 4096, 256) == [data[start:end] for start, end in zip([0, *ends], ends)]
         return b'rest kept, %d bytes: [%s], split again the same' % (len(text), shown(text))
-
-
-def shown(data):
-    """Bytes as the program reads and prints them."""
-    def piece(found):
-        byte, count = found[0][0], len(found[0])
-        if count >= 10:
-            return b'<%02x x %d>' % (byte, count)
-        return found[0] if 0x20 <= byte <= 0x7e and byte not in b'<]' else b'<%02x>' % byte * count
-    return re.sub(rb'(?s)(.)\1*', piece, data)
 
 
 def into(items, *texts):
