@@ -8,8 +8,8 @@ use Rattle.lines.specs.Trim.{trimStart, trimEnd}
 
 -- ---- kinds
 
--- a section header with its name; an entry with its key and its value (the rules' joined text); or the number
--- of the refusal
+-- nothing; a section header with its name; an entry with its key and its value (the rules' joined text); or a fault
+-- with the number of its refusal
 pub data Kind : Type 0 where
   empty : Kind
   header : (name : Bytes) → Kind
@@ -65,6 +65,7 @@ headerKind rest = cond (isHeader rest) (header (withoutLast rest)) (fault 6)
 abbrev pub equalsSign : ℕ
 equalsSign = 0x3D
 
+-- a byte is one
 abbrev pub isEqualsSign : ℕ → Bool
 isEqualsSign b = eqb b equalsSign
 

@@ -53,7 +53,7 @@ entries (newEntry e ∷ es) = e ∷ entries es
 
 -- ---- one line more
 
--- an index among those behind the first
+-- the index of one behind the first, counted from the first
 abbrev pub later : Option ℕ → Option ℕ
 later none = none
 later (some i) = some (suc i)
