@@ -1,8 +1,10 @@
--- The statements of specs/RoundTrip.antt, specs/Excluded.antt and specs/ExcludedReads.antt, each by the module that proves it.
+-- The statements of specs/, each by the module that proves it.
 use Rattle.claims.specs.RoundTrip.{WriteAccepts, SplitComesBack}
+use Rattle.claims.specs.LookUps.{TableThere, FindAfterRead, ValueAfterRead, SettingAfterRead, MissingAfterRead}
 use Rattle.claims.specs.Excluded.{SplitsNothing, SplitsTwo, WritesNothing, WritesTwo}
 use Rattle.claims.specs.ExcludedReads.{ReadsNothing, ReadsTwo, NoOneAnswer, CountsOfTable, RefusalOfFile}
 use Rattle.claims.proofs.CallsBack.{write-accepts, split-comes-back}
+use Rattle.claims.proofs.LookedUp.{table-there, find-after-read, value-after-read, setting-after-read, missing-after-read}
 use Rattle.claims.proofs.Excluded.{splits-nothing, splits-two, writes-nothing, writes-two}
 use Rattle.claims.proofs.ExcludedReads.{reads-nothing, reads-two, no-one-answer, counts-of-table, refusal-of-file}
 
@@ -11,6 +13,21 @@ list-is-written = write-accepts
 
 pub list-comes-back : SplitComesBack
 list-comes-back = split-comes-back
+
+pub read-file-has-a-table : TableThere
+read-file-has-a-table = table-there
+
+pub read-entries-are-found : FindAfterRead
+read-entries-are-found = find-after-read
+
+pub read-values-come-back : ValueAfterRead
+read-values-come-back = value-after-read
+
+pub found-is-first-or-last : SettingAfterRead
+found-is-first-or-last = setting-after-read
+
+pub missing-is-none : MissingAfterRead
+missing-is-none = missing-after-read
 
 pub empty-text-is-split : SplitsNothing
 empty-text-is-split = splits-nothing

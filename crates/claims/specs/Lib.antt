@@ -1,5 +1,6 @@
 -- The demands, as statements about what calls leave behind.
 pub mod RoundTrip
+pub mod LookUps
 -- wrong programs that the promises rule out
 pub mod Excluded
 pub mod ExcludedReads

@@ -1,0 +1,129 @@
+-- After an accepted read the buffers decode to the file's table; so the questions to them are questions to the table.
+use mathlib.Core.Path.{_≡_, refl, sym, ap, _∙_, subst}
+use Prim.Native.Nat.{ℕ, _+_, _-_, _≤_, _<_}
+use native.Mathlib.Nat.{zero-add}
+use native.Mathlib.Omega.{arith}
+use mathlib.Core.Bool.{Bool, true, false, _||_, cond}
+use mathlib.Core.Option.{Option, none, some}
+use mathlib.Core.List.{List, [], _∷_}
+use lib.ListN.{length, take, drop, length-take, length-drop}
+use lib.Dec.{leb, ltb}
+use borrow.Author.Tests.{le-leb, lt-ltb, le-ltb}
+use Rattle.lines.specs.Bytes.{Bytes}
+use Rattle.lines.specs.Answers.{Outcome, accepted, refused}
+use Rattle.lines.specs.Buffers.{filled, put}
+use Rattle.lines.proofs.Bools.{by-cases, clash}
+use Rattle.lines.proofs.Buffers.{copied}
+use Rattle.table.specs.Tables.{Table, names, entries, andThen, verdict}
+use Rattle.table.specs.Contents.{textOf, sectionNumbers, entryNumbers}
+use Rattle.table.specs.Answers.{Counts, readMeans, countsOf, counted, textAfter, sectionsAfter, entriesAfter, readIn, Reads}
+use Rattle.table.specs.declared.reader.ReadAnswer.{ReadAnswer}
+use Rattle.table.specs.declared.reader.ReadAnswer.the-variants.{Accepted as ReadAccepted, Refused as ReadRefused}
+use Rattle.table.proofs.Laws.{enough-space-decides}
+use Rattle.lookup.specs.Decoding.{part, Lent, lent, Decoded, tableIn}
+use Rattle.lookup.specs.Questions.{indexesFrom, asked, valueAt, onTable, orMissing, indexIn, valueIn, partIn}
+use Rattle.lookup.specs.Answers.{findMeans, bytesOr, HandsBack}
+use Rattle.lookup.specs.Laws.{NoneOf, Stands, decodedOf, readInto, PartOfValue}
+use Rattle.lookup.specs.declared.search.Which.{Which}
+use Rattle.lookup.specs.declared.search.Which.the-variants.{First, Last}
+use Rattle.lookup.specs.declared.search.FindAnswer.{FindAnswer}
+use Rattle.lookup.proofs.Laws.{first-is-first, last-is-last, none-is-none, parts-are-values, found-have-values, tables-decode}
+use Rattle.lookup.proofs.Meanings.{value-stands, some-found}
+use Rattle.claims.specs.LookUps.{indexInTable, valueInTable, Accepted, lentAfter, TableThere, FindAfterRead, ValueAfterRead, IsSetting, SettingAfterRead, MissingAfterRead}
+
+-- ---- the table that was read
+
+-- what an outcome that was accepted says
+accepted-is : {A : Type 0} (x y : A) → accepted x ≡ accepted y → x ≡ y
+accepted-is x y e = cc e
+
+not-accepted : {A : Type 0} {X : Type 0} (n p : ℕ) (x : A) → refused n p ≡ accepted x → X
+not-accepted n p x e = let z : _≡_ {A = ℕ} 0 1 = cc e in clash z
+
+module _ (f : Bytes) (c : Accepted f) where
+  -- the verdict on the call
+  abbrev outcome : Outcome Table
+  outcome = readIn (length (c .text-before)) (length (c .sections-before)) (length (c .entries-before)) f
+
+  -- is that on the file, since it is not 1
+  outcome-is : outcome ≡ verdict f
+  unfolding readIn
+  outcome-is =
+      by-cases (ltb (length (c .text-before)) 65535 || (ltb (length (c .sections-before)) 128 || ltb (length (c .entries-before)) 2560))
+      (λ e. let s : outcome ≡ refused 1 0 = rw e in not-accepted 1 0 (c .counts) (sym (c .promise .answer ∙ ap counted s) ∙ c .accepted-with))
+      (λ e. rw e)
+
+  pub table-there : (t : Table) × (verdict f ≡ accepted t)
+  table-there = go (verdict f) refl
+    where
+      go : (o : Outcome Table) → verdict f ≡ o → (t : Table) × (verdict f ≡ accepted t)
+      go (accepted t) e = (t, e)
+      go (refused n p) e = not-accepted n p (c .counts) (sym (c .promise .answer ∙ ap counted (outcome-is ∙ e)) ∙ c .accepted-with)
+
+module _ (f : Bytes) (t : Table) (v : verdict f ≡ accepted t) (c : Accepted f) where
+  is-table : outcome f c ≡ accepted t
+  is-table = outcome-is f c ∙ v
+
+  counts-are : c .counts ≡ countsOf t
+  counts-are = accepted-is (c .counts) (countsOf t) (sym (c .accepted-with) ∙ c .promise .answer ∙ ap counted is-table)
+
+  -- the buffers are those that the table was read into
+  lent-is : lentAfter c ≡ readInto t (c .text-before) (c .sections-before) (c .entries-before)
+  lent-is =
+      rw (c .promise .text-after, c .promise .sections-after, c .promise .entries-after, is-table, counts-are)
+
+  decodes : tableIn (lentAfter c) ≡ some (decodedOf t)
+  decodes = ap tableIn lent-is ∙ tables-decode f t v (c .text-before) (c .sections-before) (c .entries-before)
+
+  pub index-is : (w : Which) (x k : Bytes) → indexIn (lentAfter c) w x k ≡ indexInTable t w x k
+  unfolding indexIn indexInTable onTable
+  index-is w x k = rw decodes
+
+  pub value-is : (i : ℕ) → valueIn (lentAfter c) i ≡ valueInTable t i
+  unfolding valueIn valueInTable onTable
+  value-is i = rw decodes
+
+-- ---- the statements
+
+pub find-after-read : FindAfterRead
+find-after-read f t v c w x k r e = e ∙ index-is f t v c w x k
+
+pub value-after-read : ValueAfterRead
+value-after-read f t v c i at p b h = h .bytes ∙ ap bytesOr (value-is f t v c i)
+
+-- what is found, as the definitions say it
+asked-is : (t : Table) (w : Which) (x k : Bytes) (i : ℕ) → indexInTable t w x k ≡ accepted i
+    → asked w (indexesFrom 0 (names (t .events)) x k (entries (t .events))) ≡ some i
+unfolding indexInTable
+asked-is t w x k i e = some-found (asked w (indexesFrom 0 (names (t .events)) x k (entries (t .events)))) i e
+
+value-of : (t : Table) (x k : Bytes) (i : ℕ) (s : Stands (names (t .events)) x k (entries (t .events)) i) → bytesOr (valueInTable t i) ≡ s .entry .value
+unfolding valueInTable orMissing
+value-of t x k i s = rw (value-stands (names (t .events)) x k (entries (t .events)) i s)
+
+is-setting : (t : Table) (w : Which) (x k : Bytes) (i : ℕ) (b : Bytes) → b ≡ bytesOr (valueInTable t i) → indexInTable t w x k ≡ accepted i → IsSetting t w x k i b
+is-setting t First x k i b q e =
+    let s = first-is-first (names (t .events)) x k (entries (t .events)) i (asked-is t First x k i e) in
+    record { entry = s .0; ends = s .1; value = q ∙ value-of t x k i (s .0) }
+is-setting t Last x k i b q e =
+    let s = last-is-last (names (t .events)) x k (entries (t .events)) i (asked-is t Last x k i e) in
+    record { entry = s .0; ends = s .1; value = q ∙ value-of t x k i (s .0) }
+
+pub setting-after-read : SettingAfterRead
+setting-after-read f t v c w x k r e i q at p b h =
+    is-setting t w x k i b (value-after-read f t v c i at p b h) (sym (find-after-read f t v c w x k r e) ∙ q)
+
+-- 40 is that none is there
+missing-none : {A : Type 0} (o : Option A) → orMissing o ≡ refused 40 0 → o ≡ none
+unfolding orMissing
+missing-none none e = refl
+missing-none (some x) e = let z : _≡_ {A = ℕ} 0 1 = cc e in clash z
+
+pub missing-after-read : MissingAfterRead
+unfolding indexInTable orMissing
+missing-after-read f t v c w x k r e =
+    let n = none-is-none w (names (t .events)) x k (entries (t .events)) in
+    let a = find-after-read f t v c w x k r e in (
+      λ q. n .0 (missing-none (asked w (indexesFrom 0 (names (t .events)) x k (entries (t .events)))) (sym a ∙ q)),
+      λ h. a ∙ rw (n .1 h),
+    )
