@@ -1,6 +1,6 @@
 #!/usr/bin/env python3
 """Writes what the programs are to print: those on lines from here, those on values from expected_values.py, those on
-items from expected_items.py, those on tables from expected_table.py.
+items from expected_items.py, those on tables from expected_table.py, those on look-up from expected_lookup.py.
 
 usage: expected.py [--check]      (--check: only compare with the files that stand)
 
@@ -13,6 +13,7 @@ import sys
 
 sys.dont_write_bytecode = True  # leaves no __pycache__ in the repository
 import expected_items
+import expected_lookup
 import expected_table
 import expected_values
 from rules_lines import EXAMPLE, logical_lines, refusal
@@ -299,6 +300,7 @@ def main():
         **expected_values.outputs(),
         **expected_items.outputs(),
         **expected_table.outputs(),
+        **expected_lookup.outputs(),
     }
     assert outputs['logical/stdout'] == HAND_EXAMPLE
     assert not HAND_FILES and not HAND_TEXTS and not HAND_CALLS
