@@ -1,6 +1,6 @@
 -- One line more in a table that the buffers hold, by the tests that the code makes.
 use mathlib.Core.Path.{_≡_, refl, sym, ap, _∙_}
-use Prim.Native.Nat.{ℕ, _≤_, _<_}
+use Prim.Native.Nat.{ℕ, _+_, _-_, _≤_, _<_}
 use native.Mathlib.Omega.{arith}
 use mathlib.Core.Option.{Option, none, some}
 use mathlib.Core.List.{List}
@@ -13,11 +13,10 @@ use Rattle.table.specs.Tables.{entryIn, newSection, newEntry, Table, wit
 use Rattle.table.specs.Contents.{textOf, sectionRecord, entryRecord}
 use Rattle.table.specs.Steps.{firstNamed, currentOf, SectionPut, EntryPut, Held, TakesHeader, TakesEntry}
 use Rattle.table.specs.declared.error.Error.the-variants.{NoSection, TooMany}
-use Rattle.table.specs.declared.state.Current.the-variants.{Outside, Section}
 use Rattle.table.specs.declared.state.State.{State}
 use Rattle.table.specs.declared.state.Step.the-variants.{Go, Refused}
 use Rattle.table.proofs.Search.{indexOr, search-table, index-known, index-new}
-use Rattle.table.proofs.Puts.{numbers-kept, section-held, entry-held}
+use Rattle.table.proofs.Puts.{numbers-kept, same-counts, section-held, entry-held}
 
 -- ---- a header
 
@@ -34,7 +33,7 @@ module _ (x : Bytes) (n : ℕ) (s : State) (text : Bytes) (sections : List ℕ) 
 
   -- it goes on with an earlier section
   pub header-known : i < s .sections
-      → TakesHeader (header x) n s text sections (Go (record { text = s .text; sections = s .sections; entries = s .entries; current = Section i })) text sections
+      → TakesHeader (header x) n s text sections (Go (record { text = s .text; sections = s .sections; entries = s .entries; current = i + 1 })) text sections
   unfolding act opened
   header-known l t d e h =
       let c : s .sections ≡ length (names (t .events)) = ap (λ (z : State). z .sections) (h .state) in
@@ -43,7 +42,9 @@ module _ (x : Bytes) (n : ℕ) (s : State) (text : Bytes) (sections : List ℕ) 
         table = record { events = t .events; current = some i };
         outcome = rw k;
         held = record {
-          state = ap (λ (z : State). record { text = z .text; sections = z .sections; entries = z .entries; current = Section i }) (h .state);
+          state =
+              ap (λ (z : State). record { text = z .text; sections = z .sections; entries = z .entries; current = i + 1 }) (h .state)
+              ∙ same-counts _ _ _ _ _ _ _ _ refl refl refl (omega arith);
           text-is = h .text-is;
           numbers-are = h .numbers-are;
         };
@@ -75,25 +76,31 @@ module _ (x : Bytes) (n : ℕ) (s : State) (text : Bytes) (sections : List ℕ) 
 -- ---- an entry
 
 -- what the section that is open says of the table
-open-in : (o : Option ℕ) (i : ℕ) → Section i ≡ currentOf o → o ≡ some i
-open-in none i q = let z : _≡_ {A = ℕ} 0 1 = cc (q) in absurd (omega arith)
-open-in (some j) i q = let z : i ≡ j = cc (q) in rw z
+open-in : (o : Option ℕ) → (currentOf o ≡ 0 → ⊥) → o ≡ some (currentOf o - 1)
+open-in none q = absurd (q refl)
+open-in (some j) q = ap some (omega arith)
 
-open-out : (o : Option ℕ) → Outside ≡ currentOf o → o ≡ none
+open-out : (o : Option ℕ) → currentOf o ≡ 0 → o ≡ none
 open-out none q = refl
-open-out (some j) q = let z : _≡_ {A = ℕ} 0 1 = cc (q) in absurd (omega arith)
+open-out (some j) q = absurd (omega arith)
 
 module _ (k v : Bytes) (n : ℕ) (s : State) (text : Bytes) (numbers : List ℕ) where
   -- before any header
-  pub entry-outside : s .current ≡ Outside → TakesEntry (entry k v) n s text numbers (Refused (NoSection n)) text numbers
+  pub entry-outside : s .current ≡ 0 → TakesEntry (entry k v) n s text numbers (Refused (NoSection n)) text numbers
   unfolding act added
   entry-outside q t d e h =
-      let o : t .current ≡ none = open-out (t .current) (sym q ∙ ap (λ (z : State). z .current) (h .state)) in
+      let o : t .current ≡ none = open-out (t .current) (sym (ap (λ (z : State). z .current) (h .state)) ∙ q) in
       rw o
 
-  module _ (i : ℕ) (q : s .current ≡ Section i) where
+  module _ (q : s .current ≡ 0 → ⊥) where
+    -- the index of the section that is open
+    abbrev i : ℕ
+    i = s .current - 1
+
     inside : (t : Table) (d : Bytes) (e : List ℕ) → Held entryRecord t s d text e numbers → t .current ≡ some i
-    inside t d e h = open-in (t .current) i (sym q ∙ ap (λ (z : State). z .current) (h .state))
+    inside t d e h =
+        let c : s .current ≡ currentOf (t .current) = ap (λ (z : State). z .current) (h .state) in
+        open-in (t .current) (λ z. q (c ∙ z)) ∙ ap (λ (z : ℕ). some (z - 1)) (sym c)
 
     -- the 513th
     pub entry-many : 512 ≤ s .entries → TakesEntry (entry k v) n s text numbers (Refused (TooMany n)) text numbers
@@ -111,6 +118,6 @@ module _ (k v : Bytes) (n : ℕ) (s : State) (text : Bytes) (numbers : List ℕ)
         record {
           table = with t (newEntry (entryIn i k v)) i;
           outcome = rw (inside t d e h, lt-ltb (length (entries (t .events))) 512 (omega arith));
-          held = entry-held t d e i k v s text numbers h l r text' numbers' p;
+          held = entry-held t d e i k v (inside t d e h) s text numbers h l r text' numbers' p;
           others = numbers-kept (t .events) (newEntry (entryIn i k v)) sectionRecord refl;
         }

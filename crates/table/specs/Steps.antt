@@ -17,8 +17,6 @@ use Rattle.table.specs.Tables.{Event, Table, names, entries, act, step, 
 use Rattle.table.specs.Contents.{textOf, sectionRecord, entryRecord, recordsFrom, sectionNumbers, entryNumbers}
 use Rattle.table.specs.Answers.{errorMeans}
 use Rattle.table.specs.Laws.{Sized}
-use Rattle.table.specs.declared.state.Current.{Current}
-use Rattle.table.specs.declared.state.Current.the-variants.{Outside, Section}
 use Rattle.table.specs.declared.state.State.{State}
 use Rattle.table.specs.declared.state.Step.{Step}
 use Rattle.table.specs.declared.state.Step.the-variants.{Go, Refused}
@@ -45,10 +43,10 @@ firstNamed x text (suc k) (a ∷ n ∷ ns) = cond (isNamed x text a n) 0 (suc (f
 
 -- ---- the state of a table
 
--- the section that is open
-abbrev pub currentOf : Option ℕ → Current
-currentOf none = Outside
-currentOf (some i) = Section i
+-- the section that is open: 0 before any header, else one more than its index
+abbrev pub currentOf : Option ℕ → ℕ
+currentOf none = 0
+currentOf (some i) = suc i
 
 -- how much of the buffers it uses
 abbrev pub stateOf : Table → State
@@ -61,13 +59,13 @@ stateOf t = record {
 
 -- a section behind the others
 pub record SectionPut (x : Bytes) (s : State) (text : Bytes) (sections : List ℕ) (r : State) (text' : Bytes) (sections' : List ℕ) : Type 0 where
-  pub state : r ≡ record { text = s .text + length x; sections = s .sections + 1; entries = s .entries; current = Section (s .sections) }
+  pub state : r ≡ record { text = s .text + length x; sections = s .sections + 1; entries = s .entries; current = s .sections + 1 }
   pub text-put : text' ≡ put text (s .text) x
   pub numbers-put : sections' ≡ put sections (2 * s .sections) (s .text ∷ length x ∷ [])
 
 -- an entry behind the others
 pub record EntryPut (i : ℕ) (k v : Bytes) (s : State) (text : Bytes) (entries : List ℕ) (r : State) (text' : Bytes) (entries' : List ℕ) : Type 0 where
-  pub state : r ≡ record { text = s .text + length k + length v; sections = s .sections; entries = s .entries + 1; current = Section i }
+  pub state : r ≡ record { text = s .text + length k + length v; sections = s .sections; entries = s .entries + 1; current = s .current }
   pub text-put : text' ≡ put (put text (s .text) k) (s .text + length k) v
   pub numbers-put : entries' ≡ put entries (5 * s .entries) (i ∷ s .text ∷ length k ∷ (s .text + length k) ∷ length v ∷ [])
 

@@ -1,6 +1,5 @@
 // The sections that a table has so far.
 use crate::error::Error;
-use crate::state::Current;
 use crate::state::State;
 use crate::state::Step;
 ghost use mathlib.Core.Path.{_≡_};
@@ -51,7 +50,7 @@ fn put_section(name: &[u8], state: State, text: &mut [u8], sections: &mut [usize
         text: start + name.len(),
         sections: count + 1,
         entries: state.entries,
-        current: Current::Section(count),
+        current: count + 1,
     }
 }
 
@@ -73,7 +72,7 @@ pub(crate) fn open_section(
             text: state.text,
             sections: count,
             entries: state.entries,
-            current: Current::Section(index),
+            current: index + 1,
         });
     }
     if 64 <= count {

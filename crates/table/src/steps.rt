@@ -4,7 +4,6 @@ use crate::kinds::is_header;
 use crate::kinds::is_key;
 use crate::kinds::offset_of;
 use crate::sections::open_section;
-use crate::state::Current;
 use crate::state::State;
 use crate::state::Step;
 ghost use mathlib.Core.Path.{_≡_};
@@ -37,7 +36,7 @@ fn put_record(
     entries[at + 4] = value_length;
 }
 
-// A new entry of a section behind the others.
+// A new entry of a section, which stays open, behind the others.
 fn put_entry(
     section: usize,
     key: &[u8],
@@ -59,7 +58,7 @@ fn put_entry(
         text: middle + value.len(),
         sections: state.sections,
         entries: index + 1,
-        current: Current::Section(section),
+        current: state.current,
     }
 }
 
@@ -76,13 +75,13 @@ fn add_entry(
     ensures { λ r. ⌜ TakesEntry (entry (now (key .entry)) (now (value .entry))) number state (now (text .entry)) (now (entries .entry)) r (now (text .exit)) (now (entries .exit)) ⌝ }
 {
     let current = state.current;
-    let Current::Section(section) = current else {
+    if current == 0 {
         return Step::Refused(Error::NoSection(number));
-    };
+    }
     if 512 <= state.entries {
         return Step::Refused(Error::TooMany(number));
     }
-    Step::Go(put_entry(section, key, value, state, text, entries))
+    Step::Go(put_entry(current - 1, key, value, state, text, entries))
 }
 
 // ---- lines

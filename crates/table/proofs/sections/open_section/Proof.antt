@@ -7,6 +7,9 @@ use Rattle.table.proofs.sections.open_section.Tie as tie
 find-section-requires : tie.Need-find-section-requires
 find-section-requires c κs = search needs
 
+add-t13 : tie.Need-add-t13
+add-t13 c = search needs
+
 same-length : tie.Need-same-length
 same-length c = search needs
 
@@ -45,6 +48,7 @@ open-section-spec =
     tie.close
     (tie.spec
     find-section-requires
+    add-t13
     same-length
     same-length-2
     returns
