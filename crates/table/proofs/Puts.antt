@@ -3,17 +3,18 @@ use mathlib.Core.Path.{_≡_, sym, ap, subst, _∙_}
 use Prim.Native.Nat.{ℕ, _+_, _*_, _≤_}
 use native.Mathlib.Nat.{zero-add}
 use native.Mathlib.Omega.{arith}
-use mathlib.Core.Option.{some}
+use mathlib.Core.Option.{none, some}
 use mathlib.Core.List.{List, [], _∷_, _++_, append-nil}
 use lib.ListN.{length, length-append}
 use Rattle.lines.specs.Bytes.{Bytes}
 use Rattle.lines.specs.Buffers.{filled, put}
 use Rattle.lines.proofs.Buffers.{filled-put, put-put}
-use Rattle.table.specs.Tables.{entryIn, Event, newSection, newEntry, Table, with, names, entries}
+use Rattle.table.specs.Tables.{entryIn, Event, newSection, newEntry, Table, with, names, entries, indexOf}
 use Rattle.table.specs.Contents.{eventText, textOf, sectionRecord, entryRecord, recordsFrom}
 use Rattle.table.specs.Steps.{currentOf, stateOf, SectionPut, EntryPut, Held}
 use Rattle.table.specs.declared.state.State.{State}
 use Rattle.table.proofs.Events.{names-section, names-entry, entries-section, entries-entry, textOf-snoc, text-length, records-snoc, sections-length, entries-length}
+use Rattle.table.proofs.TableLaws.{apart-snoc}
 
 -- ---- any event
 
@@ -43,7 +44,7 @@ same-counts a a' b b' n n' c c' p q r s = rw (p, q, r, s)
 
 -- ---- a section
 
-module _ (t : Table) (d : Bytes) (e : List ℕ) (x : Bytes) where
+module _ (t : Table) (d : Bytes) (e : List ℕ) (x : Bytes) (new : indexOf x (names (t .events)) ≡ none) where
   section-state : record {
     text = length (textOf (t .events)) + length x;
     sections = length (names (t .events)) + 1;
@@ -66,6 +67,7 @@ module _ (t : Table) (d : Bytes) (e : List ℕ) (x : Bytes) where
       (subst (λ (z : Bytes). SectionPut x (stateOf t) z sections r text' sections') (h .text-is)
       (subst (λ (z : State). SectionPut x z text sections r text' sections') (h .state) p)) in
       record {
+        apart = rw names-section (apart-snoc (names (t .events)) [] x (h .apart) new);
         state = q .state ∙ section-state;
         text-is = q .text-put ∙ text-more (t .events) (newSection x) d;
         numbers-are = q .numbers-put ∙ numbers-more (t .events) (newSection x) sectionRecord e _ (sym (sections-length 0 (t .events)));
@@ -100,6 +102,7 @@ module _ (t : Table) (d : Bytes) (e : List ℕ) (i : ℕ) (k v : Bytes) (o : t .
       ∙ ap (λ (z : List ℕ). put z (5 * s .entries) (i ∷ s .text ∷ length k ∷ (s .text + length k) ∷ length v ∷ [])) (h .numbers-are)
       ∙ ap (λ (z : State). put (filled (recordsFrom entryRecord 0 (t .events)) e) (5 * z .entries) (i ∷ z .text ∷ length k ∷ (z .text + length k) ∷ length v ∷ [])) (h .state) in
       record {
+        apart = rw names-entry (h .apart);
         state =
             p .state
             ∙ ap (λ (z : State). record { text = z .text + length k + length v; sections = z .sections; entries = z .entries + 1; current = z .current }) (h .state)

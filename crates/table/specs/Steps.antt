@@ -2,10 +2,10 @@
 -- No public promise cites this file.
 use mathlib.Core.Path.{_≡_}
 use Prim.Native.Nat.{ℕ, zero, suc, _+_, _*_, _≤_, _<_}
-use mathlib.Core.Bool.{Bool, _&&_, cond}
+use mathlib.Core.Bool.{Bool, true, _&&_, cond}
 use mathlib.Core.Option.{Option, none, some}
 use mathlib.Core.List.{List, [], _∷_}
-use lib.ListN.{length, take, drop}
+use lib.ListN.{length, take, drop, getD}
 use lib.Dec.{leb}
 use Rattle.lines.specs.Bytes.{Bytes, equal}
 use Rattle.lines.specs.Lines.{Line}
@@ -16,7 +16,7 @@ use Rattle.table.specs.LineKinds.{Kind}
 use Rattle.table.specs.Tables.{Event, Table, names, entries, act, step, run}
 use Rattle.table.specs.Contents.{textOf, sectionRecord, entryRecord, recordsFrom, sectionNumbers, entryNumbers}
 use Rattle.table.specs.Answers.{errorMeans}
-use Rattle.table.specs.Laws.{Sized}
+use Rattle.table.specs.Laws.{Sized, Apart}
 use Rattle.table.specs.declared.state.State.{State}
 use Rattle.table.specs.declared.state.Step.{Step}
 use Rattle.table.specs.declared.state.Step.the-variants.{Go, Refused}
@@ -40,6 +40,11 @@ firstNamed x text zero ns = 0
 firstNamed x text (suc k) [] = 0
 firstNamed x text (suc k) (a ∷ []) = 0
 firstNamed x text (suc k) (a ∷ n ∷ ns) = cond (isNamed x text a n) 0 (suc (firstNamed x text k ns))
+
+-- an index below their number is that of a pair whose part is the name, and any other says that no pair is
+pub record SectionFound (name text : Bytes) (count : ℕ) (numbers : List ℕ) (index : ℕ) : Type 0 where
+  pub known : index < count → isNamed name text (getD numbers (2 * index) 0) (getD numbers (2 * index + 1) 0) ≡ true
+  pub new : count ≤ index → firstNamed name text count numbers ≡ count
 
 -- ---- the state of a table
 
@@ -71,8 +76,9 @@ pub record EntryPut (i : ℕ) (k v : Bytes) (s : State) (text : Bytes) (entries 
 
 -- ---- a line that goes into the text and one of the buffers of numbers; d and e are the buffers as they were at first
 
--- a state, the text and the records of one kind hold a table, over what the buffers were at first
+-- a state, the text and the records of one kind hold a table whose names are apart, over what the buffers were at first
 pub record Held (f : ℕ → Event → List ℕ) (t : Table) (s : State) (d text : Bytes) (e numbers : List ℕ) : Type 0 where
+  pub apart : Apart [] (names (t .events))
   pub state : s ≡ stateOf t
   pub text-is : text ≡ filled (textOf (t .events)) d
   pub numbers-are : numbers ≡ filled (recordsFrom f 0 (t .events)) e
@@ -107,8 +113,9 @@ TakesEntry k n s text entries r text' entries' = Takes entryRecord sectionRecord
 
 -- ---- a line and all three buffers; d, e and g are the buffers as they were at first
 
--- a state and the buffers hold a table, over what the buffers were at first
+-- a state and the buffers hold a table whose names are apart, over what the buffers were at first
 pub record Holds (t : Table) (s : State) (d text : Bytes) (e sections : List ℕ) (g entries : List ℕ) : Type 0 where
+  pub apart : Apart [] (names (t .events))
   pub state : s ≡ stateOf t
   pub text-is : text ≡ filled (textOf (t .events)) d
   pub sections-are : sections ≡ filled (sectionNumbers (t .events)) e

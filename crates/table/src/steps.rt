@@ -93,14 +93,22 @@ fn add_header_line(
     state: State,
     text: &mut [u8],
     sections: &mut [usize],
+    order: &mut [usize],
 ) -> Step
-    requires { ⌜ (state .text + length (now rest) ≤ length (now text)) × (state .sections ≤ 64) × (128 ≤ length (now sections)) ⌝ }
+    requires { ⌜ (state .text + length (now rest) ≤ length (now text)) × (state .sections ≤ 64) × (128 ≤ length (now sections)) × (128 ≤ length (now order)) ⌝ }
     ensures { λ r. ⌜ TakesHeader (headerKind (now (rest .entry))) number state (now (text .entry)) (now (sections .entry)) r (now (text .exit)) (now (sections .exit)) ⌝ }
 {
     if !is_header(rest) {
         return Step::Refused(Error::BadHeader(number));
     }
-    open_section(&rest[0..rest.len() - 1], number, state, text, sections)
+    open_section(
+        &rest[0..rest.len() - 1],
+        number,
+        state,
+        text,
+        sections,
+        order,
+    )
 }
 
 // A trimmed line that starts with another byte.
@@ -134,8 +142,9 @@ pub(crate) fn add_line(
     text: &mut [u8],
     sections: &mut [usize],
     entries: &mut [usize],
+    order: &mut [usize],
 ) -> Step
-    requires { ⌜ (state .text + length (now line) ≤ length (now text)) × (state .sections ≤ 64) × (128 ≤ length (now sections)) × (2560 ≤ length (now entries)) ⌝ }
+    requires { ⌜ (state .text + length (now line) ≤ length (now text)) × (state .sections ≤ 64) × (128 ≤ length (now sections)) × (2560 ≤ length (now entries)) × (128 ≤ length (now order)) ⌝ }
     ensures { λ r. ⌜ TakesLine (kind (trimmed (now (line .entry)))) number state (now (text .entry)) (now (sections .entry)) (now (entries .entry)) r (now (text .exit)) (now (sections .exit)) (now (entries .exit)) ⌝ }
 {
     let trimmed = lines::trim(line);
@@ -143,7 +152,7 @@ pub(crate) fn add_line(
         return Step::Go(state);
     }
     if trimmed[0] == b'[' {
-        return add_header_line(&trimmed[1..], number, state, text, sections);
+        return add_header_line(&trimmed[1..], number, state, text, sections, order);
     }
     add_entry_line(trimmed, number, state, text, entries)
 }
