@@ -66,13 +66,17 @@ fn is_before(index: usize, name: &[u8], text: &[u8], sections: &[usize], count: 
     if length != name.len() {
         return length < name.len();
     }
+    // The first eight bytes are all.
+    if length <= 8 {
+        return false;
+    }
     if text.len() < start {
         return false;
     }
     if text.len() - start < length {
         return false;
     }
-    is_smaller(&text[start..start + length], name)
+    is_smaller(&text[start + 8..start + length], &name[8..])
 }
 
 // ---- the order
