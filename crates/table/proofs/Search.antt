@@ -12,12 +12,13 @@ use lib.Seq.{take-at, drop-at, drop-cons}
 use borrow.Author.Tests.{le-leb, lt-leb}
 use Rattle.lines.specs.Bytes.{Bytes, equal}
 use Rattle.lines.specs.Buffers.{filled}
-use Rattle.lines.proofs.Bools.{by-cases, clash, equal-eq, equal-refl}
+use Rattle.lines.proofs.Bools.{by-cases, equal-eq}
 use Rattle.table.specs.Tables.{Event, newSection, newEntry, names, later, indexOf}
 use Rattle.table.specs.Contents.{textOf, sectionRecord, recordsFrom}
 use Rattle.table.proofs.Events.{Below, index-below}
 use Rattle.table.specs.Laws.{Apart}
 use Rattle.table.specs.Steps.{isNamed, firstNamed, SectionFound}
+use Rattle.table.proofs.TableLaws.{index-apart}
 
 -- ---- one pair
 
@@ -77,12 +78,10 @@ module _ (x text : Bytes) (k : ℕ) (ns : List ℕ) where
   pub found-pair : (i : ℕ) → i < k → isNamed x text (getD ns (2 * i) 0) (getD ns (2 * i + 1) 0) ≡ true → SectionFound x text k ns i
   found-pair i h e = record { known = λ m. e; new = λ m. absurd (omega arith) }
 
--- ---- the sections of a table
-
--- ---- the first of them
+-- ---- the sections of a table: the first that is the name
 
 -- an index, or the number of all where there is none
-abbrev pub indexOr : ℕ → Option ℕ → ℕ
+abbrev indexOr : ℕ → Option ℕ → ℕ
 indexOr n none = n
 indexOr n (some i) = i
 
@@ -97,6 +96,10 @@ named-part x pre y post =
     length-append pre (y ++ post) ∙ ap (λ (n : ℕ). length pre + n) (length-append y post) in
     inside-text x (pre ++ (y ++ post)) (length pre) (length y) (omega arith)
     ∙ rw (drop-at pre (y ++ post) (length pre) refl, take-at y post (length y) refl)
+
+-- the text of the first event goes to the bytes before
+regrouped : (pre y z post : Bytes) → pre ++ ((y ++ z) ++ post) ≡ (pre ++ y) ++ (z ++ post)
+regrouped pre y z post = ap (λ (l : Bytes). pre ++ l) (append-assoc y z post) ∙ sym (append-assoc pre y (z ++ post))
 
 -- the events' text behind other bytes
 search-events : (es : List Event) (x pre post : Bytes) (rest : List ℕ)
@@ -113,9 +116,7 @@ search-events (newSection y ∷ es) x pre post rest =
     (index-later (length (names es)) (indexOf x (names es))))
 search-events (newEntry f ∷ es) x pre post rest =
     let y : Bytes = f .key ++ f .value in
-    let p : pre ++ ((y ++ textOf es) ++ post) ≡ (pre ++ y) ++ (textOf es ++ post) =
-    ap (λ (l : Bytes). pre ++ l) (append-assoc y (textOf es) post) ∙ sym (append-assoc pre y (textOf es ++ post)) in
-    rw (p, ← length-append pre y) (search-events es x (pre ++ y) post rest)
+    rw (regrouped pre y (textOf es) post, ← length-append pre y) (search-events es x (pre ++ y) post rest)
 
 search-table : (es : List Event) (x d : Bytes) (e : List ℕ)
     → firstNamed x (filled (textOf es) d) (length (names es)) (filled (recordsFrom sectionRecord 0 es) e)
@@ -132,7 +133,7 @@ table-new es x d e h = go (indexOf x (names es)) (index-below (names es) x) (sym
     go none b q = refl
     go (some j) b q = absurd (omega arith)
 
--- ---- any of them
+-- ---- the sections of a table: any that is the name
 
 -- the pair at an index is the name where the name at that index is
 pair-events : (es : List Event) (i : ℕ) (x pre post : Bytes) (rest : List ℕ) → i < length (names es)
@@ -143,40 +144,14 @@ unfolding textOf names recordsFrom
 pair-events [] i x pre post rest h = absurd (omega arith)
 pair-events (newSection y ∷ es) zero x pre post rest h =
     let s : pre ++ ((y ++ textOf es) ++ post) ≡ pre ++ (y ++ (textOf es ++ post)) = ap (λ (l : Bytes). pre ++ l) (append-assoc y (textOf es) post) in
-    rw (s) (named-part x pre y (textOf es ++ post))
+    rw s (named-part x pre y (textOf es ++ post))
 pair-events (newSection y ∷ es) (suc i) x pre post rest h =
-    let p : pre ++ ((y ++ textOf es) ++ post) ≡ (pre ++ y) ++ (textOf es ++ post) =
-    ap (λ (l : Bytes). pre ++ l) (append-assoc y (textOf es) post) ∙ sym (append-assoc pre y (textOf es ++ post)) in
     let a : 2 * suc i ≡ suc (suc (2 * i)) = omega arith in
     let b : suc (suc (2 * i)) + 1 ≡ suc (suc (2 * i + 1)) = omega arith in
-    rw (p, a, b, ← length-append pre y) (pair-events es i x (pre ++ y) post rest (omega arith))
+    rw (regrouped pre y (textOf es) post, a, b, ← length-append pre y) (pair-events es i x (pre ++ y) post rest (omega arith))
 pair-events (newEntry f ∷ es) i x pre post rest h =
     let y : Bytes = f .key ++ f .value in
-    let p : pre ++ ((y ++ textOf es) ++ post) ≡ (pre ++ y) ++ (textOf es ++ post) =
-    ap (λ (l : Bytes). pre ++ l) (append-assoc y (textOf es) post) ∙ sym (append-assoc pre y (textOf es ++ post)) in
-    rw (p, ← length-append pre y) (pair-events es i x (pre ++ y) post rest h)
-
--- the index of a name that no name before is equal to
-index-behind : (seen : List Bytes) (y : Bytes) (ys : List Bytes) → indexOf y seen ≡ none → indexOf y (seen ++ y ∷ ys) ≡ some (length seen)
-unfolding indexOf
-index-behind [] y ys e = rw (equal-refl y)
-index-behind (z ∷ seen) y ys e =
-    by-cases (equal y z)
-    (λ q. let n : some 0 ≡ none = rw q at e in clash (cc (n)))
-    (λ q. rw (q, index-behind seen y ys (not-later (indexOf y seen) (rw q at e))))
-  where
-    not-later : (o : Option ℕ) → later o ≡ none → o ≡ none
-    not-later none n = refl
-    not-later (some i) n = clash (cc (n))
-
--- where names are apart, each has its own index
-index-apart : (ns seen : List Bytes) (i : ℕ) → Apart seen ns → i < length ns → indexOf (getD ns i []) (seen ++ ns) ≡ some (length seen + i)
-index-apart [] seen i h l = absurd (omega arith)
-index-apart (y ∷ ys) seen zero h l = index-behind seen y ys (h .0) ∙ ap some (omega arith)
-index-apart (y ∷ ys) seen (suc i) h l =
-    ap (indexOf (getD ys i [])) (sym (append-assoc seen (y ∷ []) ys))
-    ∙ index-apart ys (seen ++ y ∷ []) i (h .1) (omega arith)
-    ∙ ap some (omega (arith, length-append seen (y ∷ [])))
+    rw (regrouped pre y (textOf es) post, ← length-append pre y) (pair-events es i x (pre ++ y) post rest h)
 
 -- so a pair that is the name has the name's index
 pub table-known : (es : List Event) (x d : Bytes) (e : List ℕ) (i : ℕ) → Apart [] (names es) → i < length (names es)
