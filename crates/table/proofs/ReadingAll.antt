@@ -10,7 +10,7 @@ use Rattle.lines.specs.Lines.{logical}
 use Rattle.lines.specs.Cursors.{firstCursor, logicalFrom}
 use Rattle.lines.specs.declared.joiner.Cursor.{Cursor}
 use Rattle.lines.proofs.Laws.{reads-all}
-use Rattle.table.specs.Tables.{Table, emptyTable, run}
+use Rattle.table.specs.Tables.{Table, emptyTable, names, run}
 use Rattle.table.specs.Contents.{textOf, recordsFrom}
 use Rattle.table.specs.Answers.{errorMeans}
 use Rattle.table.specs.Laws.{Sized}
@@ -37,8 +37,8 @@ pub record Reading (f d : Bytes) (e g : List ℕ) (text : Bytes) (sections entri
 
 module _ (f d : Bytes) (e g : List ℕ) where
   empty-holds : Holds emptyTable (stateOf emptyTable) d d e e g g
-  unfolding textOf recordsFrom
-  empty-holds = record { state = refl; text-is = refl; sections-are = refl; entries-are = refl }
+  unfolding names textOf recordsFrom
+  empty-holds = record { apart = tt; state = refl; text-is = refl; sections-are = refl; entries-are = refl }
 
   pub reading-start : (c : Cursor) (s : State) → c ≡ firstCursor → s ≡ stateOf emptyTable
       → Reading f d e g d e g (record { cursor = c; state = s })

@@ -1,22 +1,22 @@
 -- What holds of the table of an accepted file: one record of facts, kept by each line. And lines with the same bytes
 -- bring the same, whatever their numbers.
-use mathlib.Core.Path.{_≡_, refl, subst}
-use Prim.Native.Nat.{ℕ, suc, _<_}
+use mathlib.Core.Path.{_≡_, refl, sym, ap, subst, _∙_}
+use Prim.Native.Nat.{ℕ, zero, suc, _+_, _<_}
 use native.Mathlib.Omega.{arith}
 use mathlib.Core.Bool.{true}
 use mathlib.Core.Option.{Option, none, some}
 use mathlib.Core.List.{List, [], _∷_, _++_, append-assoc, append-nil}
-use lib.ListN.{length, length-append}
+use lib.ListN.{length, getD, length-append}
 use lib.Dec.{ltb}
-use Rattle.lines.specs.Bytes.{Bytes, headerByte}
+use Rattle.lines.specs.Bytes.{Bytes, equal, headerByte}
 use Rattle.lines.specs.Lines.{Line, logical}
 use Rattle.lines.specs.Trim.{trimStart, trimEnd, trimmed}
 use Rattle.lines.specs.Answers.{Outcome, accepted, refused}
 use Rattle.lines.specs.Laws.{All, bytesOf}
-use Rattle.lines.proofs.Bools.{by-cases, clash}
+use Rattle.lines.proofs.Bools.{by-cases, clash, equal-refl}
 use Rattle.lines.proofs.Trimming.{trimEnd-idem, trimmed-both}
 use Rattle.table.specs.LineKinds.{oneOrMore, Kind, empty, header, entry, fault, kind}
-use Rattle.table.specs.Tables.{Entry, entryIn, Table, emptyTable, names, entries, indexOf, opened, added, act, step, andThen, run, verdict}
+use Rattle.table.specs.Tables.{Entry, entryIn, Table, emptyTable, names, entries, later, indexOf, opened, added, act, step, andThen, run, verdict}
 use Rattle.table.specs.Laws.{EntryParts, Apart, NamesApart, EntriesInside, NamesLegal, EntryLegal, EntriesLegal, NumbersDecideNothing}
 use Rattle.table.proofs.Events.{Below, index-below, names-section, names-entry, entries-section, entries-entry}
 use Rattle.table.proofs.Parts.{trimEnd-behind}
@@ -42,6 +42,28 @@ apart-snoc [] seen x h e = (rw append-nil at e, tt)
 apart-snoc (y ∷ xs) seen x h e = (h .0, apart-snoc xs (seen ++ y ∷ []) x (h .1) (rw (append-assoc seen (y ∷ []) xs) e))
 
 -- ---- indexes
+
+-- the index of a name that no name before is equal to
+index-behind : (seen : List Bytes) (y : Bytes) (ys : List Bytes) → indexOf y seen ≡ none → indexOf y (seen ++ y ∷ ys) ≡ some (length seen)
+unfolding indexOf
+index-behind [] y ys e = rw (equal-refl y)
+index-behind (z ∷ seen) y ys e =
+    by-cases (equal y z)
+    (λ q. let n : some 0 ≡ none = rw q at e in clash (cc (n)))
+    (λ q. rw (q, index-behind seen y ys (not-later (indexOf y seen) (rw q at e))))
+  where
+    not-later : (o : Option ℕ) → later o ≡ none → o ≡ none
+    not-later none n = refl
+    not-later (some i) n = clash (cc (n))
+
+-- where names are apart, each has its own index
+pub index-apart : (ns seen : List Bytes) (i : ℕ) → Apart seen ns → i < length ns → indexOf (getD ns i []) (seen ++ ns) ≡ some (length seen + i)
+index-apart [] seen i h l = absurd (omega arith)
+index-apart (y ∷ ys) seen zero h l = index-behind seen y ys (h .0) ∙ ap some (omega arith)
+index-apart (y ∷ ys) seen (suc i) h l =
+    ap (indexOf (getD ys i [])) (sym (append-assoc seen (y ∷ []) ys))
+    ∙ index-apart ys (seen ++ y ∷ []) i (h .1) (omega arith)
+    ∙ ap some (omega (arith, length-append seen (y ∷ [])))
 
 -- ---- a table that lines have brought
 

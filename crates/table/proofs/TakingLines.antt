@@ -130,6 +130,7 @@ module _ (t : Table) (o : Outcome Table) (s : State) (d text text' : Bytes) (e s
     k .table,
     k .outcome,
     record {
+      apart = k .held .apart;
       state = k .held .state;
       text-is = k .held .text-is;
       sections-are = k .held .numbers-are;
@@ -143,6 +144,7 @@ module _ (t : Table) (o : Outcome Table) (s : State) (d text text' : Bytes) (e s
     k .table,
     k .outcome,
     record {
+      apart = k .held .apart;
       state = k .held .state;
       text-is = k .held .text-is;
       sections-are = h .sections-are ∙ ap (λ (z : List ℕ). filled z e) (sym (k .others));
@@ -182,14 +184,14 @@ module _ (l : Bytes) (n : ℕ) (s : State) (text : Bytes) (sections entries : Li
     line-header e r text' sections' k t d f g h =
         let q : kind l ≡ headerKind (take (length l - 1) (drop 1 l)) = starts-header (eq-eqb _ _ e) ∙ ap headerKind (sym (part-from 1 l)) in
         rw q (both-sections t _ s d text text' f sections sections' g entries entries h r
-        (k t d f (record { state = h .state; text-is = h .text-is; numbers-are = h .sections-are })))
+        (k t d f (record { apart = h .apart; state = h .state; text-is = h .text-is; numbers-are = h .sections-are })))
 
     pub line-entry : (getD l 0 0 ≡ 0x5B → ⊥) → (r : Step) (text' : Bytes) (entries' : List ℕ)
         → TakesEntry (entryKind l) n s text entries r text' entries'
         → TakesLine (kind l) n s text sections entries r text' sections entries'
     line-entry e r text' entries' k t d f g h =
         rw (starts-entry (ne-eqb _ _ e)) (both-entries t _ s d text text' f sections sections g entries entries' h r
-        (k t d g (record { state = h .state; text-is = h .text-is; numbers-are = h .entries-are })))
+        (k t d g (record { apart = h .apart; state = h .state; text-is = h .text-is; numbers-are = h .entries-are })))
 
 -- the bytes that were trimmed
 pub for-trimmed : (l m : Bytes) (n : ℕ) (s : State) (text : Bytes) (sections entries : List ℕ) (r : Step) (text' : Bytes) (sections' entries' : List ℕ)

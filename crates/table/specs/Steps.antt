@@ -2,10 +2,10 @@
 -- No public promise cites this file.
 use mathlib.Core.Path.{_≡_}
 use Prim.Native.Nat.{ℕ, zero, suc, _+_, _*_, _≤_, _<_}
-use mathlib.Core.Bool.{Bool, _&&_, cond}
+use mathlib.Core.Bool.{Bool, true, _&&_, cond}
 use mathlib.Core.Option.{Option, none, some}
 use mathlib.Core.List.{List, [], _∷_}
-use lib.ListN.{length, take, drop}
+use lib.ListN.{length, take, drop, getD}
 use lib.Dec.{leb}
 use Rattle.lines.specs.Bytes.{Bytes, equal}
 use Rattle.lines.specs.Lines.{Line}
@@ -16,9 +16,7 @@ use Rattle.table.specs.LineKinds.{Kind}
 use Rattle.table.specs.Tables.{Event, Table, names, entries, act, step, run}
 use Rattle.table.specs.Contents.{textOf, sectionRecord, entryRecord, recordsFrom, sectionNumbers, entryNumbers}
 use Rattle.table.specs.Answers.{errorMeans}
-use Rattle.table.specs.Laws.{Sized}
-use Rattle.table.specs.declared.state.Current.{Current}
-use Rattle.table.specs.declared.state.Current.the-variants.{Outside, Section}
+use Rattle.table.specs.Laws.{Sized, Apart}
 use Rattle.table.specs.declared.state.State.{State}
 use Rattle.table.specs.declared.state.Step.{Step}
 use Rattle.table.specs.declared.state.Step.the-variants.{Go, Refused}
@@ -43,12 +41,17 @@ firstNamed x text (suc k) [] = 0
 firstNamed x text (suc k) (a ∷ []) = 0
 firstNamed x text (suc k) (a ∷ n ∷ ns) = cond (isNamed x text a n) 0 (suc (firstNamed x text k ns))
 
+-- an index below their number is that of a pair whose part is the name, and any other says that no pair is
+pub record SectionFound (name text : Bytes) (count : ℕ) (numbers : List ℕ) (index : ℕ) : Type 0 where
+  pub known : index < count → isNamed name text (getD numbers (2 * index) 0) (getD numbers (2 * index + 1) 0) ≡ true
+  pub new : count ≤ index → firstNamed name text count numbers ≡ count
+
 -- ---- the state of a table
 
--- the section that is open
-abbrev pub currentOf : Option ℕ → Current
-currentOf none = Outside
-currentOf (some i) = Section i
+-- the section that is open: 0 before any header, else one more than its index
+abbrev pub currentOf : Option ℕ → ℕ
+currentOf none = 0
+currentOf (some i) = suc i
 
 -- how much of the buffers it uses
 abbrev pub stateOf : Table → State
@@ -61,20 +64,21 @@ stateOf t = record {
 
 -- a section behind the others
 pub record SectionPut (x : Bytes) (s : State) (text : Bytes) (sections : List ℕ) (r : State) (text' : Bytes) (sections' : List ℕ) : Type 0 where
-  pub state : r ≡ record { text = s .text + length x; sections = s .sections + 1; entries = s .entries; current = Section (s .sections) }
+  pub state : r ≡ record { text = s .text + length x; sections = s .sections + 1; entries = s .entries; current = s .sections + 1 }
   pub text-put : text' ≡ put text (s .text) x
   pub numbers-put : sections' ≡ put sections (2 * s .sections) (s .text ∷ length x ∷ [])
 
 -- an entry behind the others
 pub record EntryPut (i : ℕ) (k v : Bytes) (s : State) (text : Bytes) (entries : List ℕ) (r : State) (text' : Bytes) (entries' : List ℕ) : Type 0 where
-  pub state : r ≡ record { text = s .text + length k + length v; sections = s .sections; entries = s .entries + 1; current = Section i }
+  pub state : r ≡ record { text = s .text + length k + length v; sections = s .sections; entries = s .entries + 1; current = s .current }
   pub text-put : text' ≡ put (put text (s .text) k) (s .text + length k) v
   pub numbers-put : entries' ≡ put entries (5 * s .entries) (i ∷ s .text ∷ length k ∷ (s .text + length k) ∷ length v ∷ [])
 
 -- ---- a line that goes into the text and one of the buffers of numbers; d and e are the buffers as they were at first
 
--- a state, the text and the records of one kind hold a table, over what the buffers were at first
+-- a state, the text and the records of one kind hold a table whose names are apart, over what the buffers were at first
 pub record Held (f : ℕ → Event → List ℕ) (t : Table) (s : State) (d text : Bytes) (e numbers : List ℕ) : Type 0 where
+  pub apart : Apart [] (names (t .events))
   pub state : s ≡ stateOf t
   pub text-is : text ≡ filled (textOf (t .events)) d
   pub numbers-are : numbers ≡ filled (recordsFrom f 0 (t .events)) e
@@ -109,8 +113,9 @@ TakesEntry k n s text entries r text' entries' = Takes entryRecord sectionRecord
 
 -- ---- a line and all three buffers; d, e and g are the buffers as they were at first
 
--- a state and the buffers hold a table, over what the buffers were at first
+-- a state and the buffers hold a table whose names are apart, over what the buffers were at first
 pub record Holds (t : Table) (s : State) (d text : Bytes) (e sections : List ℕ) (g entries : List ℕ) : Type 0 where
+  pub apart : Apart [] (names (t .events))
   pub state : s ≡ stateOf t
   pub text-is : text ≡ filled (textOf (t .events)) d
   pub sections-are : sections ≡ filled (sectionNumbers (t .events)) e

@@ -31,6 +31,9 @@ const SECTION_NUMBERS: usize = 128;
 
 const ENTRY_NUMBERS: usize = 2560;
 
+// The order of the sections has two numbers for each.
+const ORDER_NUMBERS: usize = 128;
+
 // Where reading goes on, and what the table has.
 struct Progress {
     cursor: Cursor,
@@ -63,8 +66,9 @@ fn read_line(
     text: &mut [u8],
     sections: &mut [usize],
     entries: &mut [usize],
+    order: &mut [usize],
 ) -> Turn
-    requires { ⌜ (4096 ≤ length (now line)) × (progress .state .text ≤ progress .cursor .offset) × (length (now file) ≤ length (now text)) × (progress .state .sections ≤ 64) × (128 ≤ length (now sections)) × (2560 ≤ length (now entries)) ⌝ }
+    requires { ⌜ (4096 ≤ length (now line)) × (progress .state .text ≤ progress .cursor .offset) × (length (now file) ≤ length (now text)) × (progress .state .sections ≤ 64) × (128 ≤ length (now sections)) × (2560 ≤ length (now entries)) × (128 ≤ length (now order)) ⌝ }
     ensures { λ r. ⌜ ReadsLine (now (file .entry)) progress (now (text .entry)) (now (sections .entry)) (now (entries .entry)) r (now (text .exit)) (now (sections .exit)) (now (entries .exit)) ⌝ }
 {
     match lines::next_line(file, progress.cursor, line) {
@@ -79,6 +83,7 @@ fn read_line(
             text,
             sections,
             entries,
+            order,
         ) {
             Step::Go(state) => Turn::Go(Progress {
                 cursor: next,
@@ -102,12 +107,21 @@ fn read_lines(
     ensures { λ r. ⌜ ReadInto (run emptyTable (logical (now (file .entry)))) (now (text .entry)) (now (sections .entry)) (now (entries .entry)) r (now (text .exit)) (now (sections .exit)) (now (entries .exit)) ⌝ }
 {
     let mut line = [0u8; 4096];
+    let mut order = [0usize; ORDER_NUMBERS];
     let mut progress = Progress {
         cursor: Cursor::first(),
         state: State::new(),
     };
     loop {
-        match read_line(file, progress, &mut line, text, sections, entries) {
+        match read_line(
+            file,
+            progress,
+            &mut line,
+            text,
+            sections,
+            entries,
+            &mut order,
+        ) {
             Turn::Go(next) => progress = next,
             Turn::End => return accepted(progress.state),
             Turn::Refused(e) => return ReadAnswer::Refused(e),

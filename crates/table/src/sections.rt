@@ -1,13 +1,15 @@
 // The sections that a table has so far.
 use crate::error::Error;
-use crate::state::Current;
+use crate::order::guess_place;
+use crate::order::put_in_order;
+use crate::order::section_at;
 use crate::state::State;
 use crate::state::Step;
 ghost use mathlib.Core.Path.{_≡_};
 ghost use Prim.Native.Nat.{_+_, _*_, _≤_, _<_};
 ghost use lib.ListN.{length};
 ghost use Rattle.table.specs.LineKinds.{header};
-ghost use Rattle.table.specs.Steps.{isNamed, firstNamed, SectionPut, TakesHeader};
+ghost use Rattle.table.specs.Steps.{isNamed, SectionFound, SectionPut, TakesHeader};
 
 // Whether a part of the text is this name. One that is not inside the text is no name.
 fn is_named(name: &[u8], text: &[u8], start: usize, length: usize) -> bool
@@ -22,10 +24,10 @@ fn is_named(name: &[u8], text: &[u8], start: usize, length: usize) -> bool
     lines::same(name, &text[start..start + length])
 }
 
-// The index of the first section with this name, or the number of sections.
-fn find_section(name: &[u8], text: &[u8], sections: &[usize], count: usize) -> usize
+// The index of a section with this name, or the number of sections. All of them are looked at, one after another.
+fn search_sections(name: &[u8], text: &[u8], sections: &[usize], count: usize) -> usize
     requires { ⌜ 2 * count ≤ length (now sections) ⌝ }
-    ensures { λ r. ⌜ r ≡ firstNamed (now (name .entry)) (now (text .entry)) count (now (sections .entry)) ⌝ }
+    ensures { λ r. ⌜ SectionFound (now (name .entry)) (now (text .entry)) count (now (sections .entry)) r ⌝ }
 {
     let mut i = 0;
     while i < count {
@@ -35,6 +37,19 @@ fn find_section(name: &[u8], text: &[u8], sections: &[usize], count: usize) -> u
         i += 1;
     }
     i
+}
+
+// The same, where a guess comes first. It may be any number; one that is right saves the search.
+fn find_section(name: &[u8], text: &[u8], sections: &[usize], count: usize, guess: usize) -> usize
+    requires { ⌜ 2 * count ≤ length (now sections) ⌝ }
+    ensures { λ r. ⌜ SectionFound (now (name .entry)) (now (text .entry)) count (now (sections .entry)) r ⌝ }
+{
+    if guess < count {
+        if is_named(name, text, sections[2 * guess], sections[2 * guess + 1]) {
+            return guess;
+        }
+    }
+    search_sections(name, text, sections, count)
 }
 
 // A new section behind the others.
@@ -51,7 +66,7 @@ fn put_section(name: &[u8], state: State, text: &mut [u8], sections: &mut [usize
         text: start + name.len(),
         sections: count + 1,
         entries: state.entries,
-        current: Current::Section(count),
+        current: count + 1,
     }
 }
 
@@ -62,22 +77,26 @@ pub(crate) fn open_section(
     state: State,
     text: &mut [u8],
     sections: &mut [usize],
+    order: &mut [usize],
 ) -> Step
-    requires { ⌜ (state .text + length (now name) ≤ length (now text)) × (state .sections ≤ 64) × (128 ≤ length (now sections)) ⌝ }
+    requires { ⌜ (state .text + length (now name) ≤ length (now text)) × (state .sections ≤ 64) × (128 ≤ length (now sections)) × (128 ≤ length (now order)) ⌝ }
     ensures { λ r. ⌜ TakesHeader (header (now (name .entry))) number state (now (text .entry)) (now (sections .entry)) r (now (text .exit)) (now (sections .exit)) ⌝ }
 {
     let count = state.sections;
-    let index = find_section(name, text, sections, count);
+    let place = guess_place(name, text, sections, count, order);
+    let guess = section_at(place, order);
+    let index = find_section(name, text, sections, count, guess);
     if index < count {
         return Step::Go(State {
             text: state.text,
             sections: count,
             entries: state.entries,
-            current: Current::Section(index),
+            current: index + 1,
         });
     }
     if 64 <= count {
         return Step::Refused(Error::TooMany(number));
     }
+    put_in_order(name, place, count, order);
     Step::Go(put_section(name, state, text, sections))
 }

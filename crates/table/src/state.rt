@@ -4,18 +4,13 @@ ghost use mathlib.Core.Path.{_≡_};
 ghost use Rattle.table.specs.Tables.{emptyTable};
 ghost use Rattle.table.specs.Steps.{stateOf};
 
-// The section that is open.
-pub(crate) enum Current {
-    Outside,
-    Section(usize),
-}
-
-// How much of the buffers is used: text bytes, sections and entries; and the section that is open.
+// How much of the buffers is used: text bytes, sections and entries; and the section that is open: 0 before any header,
+// else one more than its index.
 pub(crate) struct State {
     pub text: usize,
     pub sections: usize,
     pub entries: usize,
-    pub current: Current,
+    pub current: usize,
 }
 
 impl State {
@@ -27,7 +22,7 @@ impl State {
             text: 0,
             sections: 0,
             entries: 0,
-            current: Current::Outside,
+            current: 0,
         }
     }
 }

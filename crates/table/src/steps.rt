@@ -4,7 +4,6 @@ use crate::kinds::is_header;
 use crate::kinds::is_key;
 use crate::kinds::offset_of;
 use crate::sections::open_section;
-use crate::state::Current;
 use crate::state::State;
 use crate::state::Step;
 ghost use mathlib.Core.Path.{_≡_};
@@ -37,7 +36,7 @@ fn put_record(
     entries[at + 4] = value_length;
 }
 
-// A new entry of a section behind the others.
+// A new entry of a section, which stays open, behind the others.
 fn put_entry(
     section: usize,
     key: &[u8],
@@ -59,7 +58,7 @@ fn put_entry(
         text: middle + value.len(),
         sections: state.sections,
         entries: index + 1,
-        current: Current::Section(section),
+        current: state.current,
     }
 }
 
@@ -76,13 +75,13 @@ fn add_entry(
     ensures { λ r. ⌜ TakesEntry (entry (now (key .entry)) (now (value .entry))) number state (now (text .entry)) (now (entries .entry)) r (now (text .exit)) (now (entries .exit)) ⌝ }
 {
     let current = state.current;
-    let Current::Section(section) = current else {
+    if current == 0 {
         return Step::Refused(Error::NoSection(number));
-    };
+    }
     if 512 <= state.entries {
         return Step::Refused(Error::TooMany(number));
     }
-    Step::Go(put_entry(section, key, value, state, text, entries))
+    Step::Go(put_entry(current - 1, key, value, state, text, entries))
 }
 
 // ---- lines
@@ -94,14 +93,22 @@ fn add_header_line(
     state: State,
     text: &mut [u8],
     sections: &mut [usize],
+    order: &mut [usize],
 ) -> Step
-    requires { ⌜ (state .text + length (now rest) ≤ length (now text)) × (state .sections ≤ 64) × (128 ≤ length (now sections)) ⌝ }
+    requires { ⌜ (state .text + length (now rest) ≤ length (now text)) × (state .sections ≤ 64) × (128 ≤ length (now sections)) × (128 ≤ length (now order)) ⌝ }
     ensures { λ r. ⌜ TakesHeader (headerKind (now (rest .entry))) number state (now (text .entry)) (now (sections .entry)) r (now (text .exit)) (now (sections .exit)) ⌝ }
 {
     if !is_header(rest) {
         return Step::Refused(Error::BadHeader(number));
     }
-    open_section(&rest[0..rest.len() - 1], number, state, text, sections)
+    open_section(
+        &rest[0..rest.len() - 1],
+        number,
+        state,
+        text,
+        sections,
+        order,
+    )
 }
 
 // A trimmed line that starts with another byte.
@@ -135,8 +142,9 @@ pub(crate) fn add_line(
     text: &mut [u8],
     sections: &mut [usize],
     entries: &mut [usize],
+    order: &mut [usize],
 ) -> Step
-    requires { ⌜ (state .text + length (now line) ≤ length (now text)) × (state .sections ≤ 64) × (128 ≤ length (now sections)) × (2560 ≤ length (now entries)) ⌝ }
+    requires { ⌜ (state .text + length (now line) ≤ length (now text)) × (state .sections ≤ 64) × (128 ≤ length (now sections)) × (2560 ≤ length (now entries)) × (128 ≤ length (now order)) ⌝ }
     ensures { λ r. ⌜ TakesLine (kind (trimmed (now (line .entry)))) number state (now (text .entry)) (now (sections .entry)) (now (entries .entry)) r (now (text .exit)) (now (sections .exit)) (now (entries .exit)) ⌝ }
 {
     let trimmed = lines::trim(line);
@@ -144,7 +152,7 @@ pub(crate) fn add_line(
         return Step::Go(state);
     }
     if trimmed[0] == b'[' {
-        return add_header_line(&trimmed[1..], number, state, text, sections);
+        return add_header_line(&trimmed[1..], number, state, text, sections, order);
     }
     add_entry_line(trimmed, number, state, text, entries)
 }

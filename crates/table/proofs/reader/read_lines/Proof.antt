@@ -10,10 +10,10 @@ use Rattle.table.proofs.reader.read_lines.Statement.{statement}
 use Rattle.table.proofs.reader.read_lines.Tie as tie
 
 abbrev Inv-loop : tie.InvT-loop
-Inv-loop file text₀ sections₀ entries₀ line₀ progress₀ text sections entries line progress = Reading file text₀ sections₀ entries₀ text sections entries progress × (length line ≡ 4096)
+Inv-loop file text₀ sections₀ entries₀ line₀ order₀ progress₀ text sections entries line order progress = Reading file text₀ sections₀ entries₀ text sections entries progress × (length line ≡ 4096) × (length order ≡ 128)
 
 abbrev μ-loop : tie.MeasureT-loop
-μ-loop file text₀ sections₀ entries₀ line₀ progress₀ text sections entries line progress = length file - progress .cursor .offset
+μ-loop file text₀ sections₀ entries₀ line₀ order₀ progress₀ text sections entries line order progress = length file - progress .cursor .offset
 
 first-requires : tie.Need-first-requires Inv-loop μ-loop
 first-requires c κs = search needs
@@ -22,23 +22,26 @@ new-requires : tie.Need-new-requires Inv-loop μ-loop
 new-requires c κs = search needs
 
 loop-holds : tie.Need-loop-holds Inv-loop μ-loop
-loop-holds c = (reading-start _ _ _ _ _ _ (c .before .first .ensures) (c .new .ensures), search needs)
+loop-holds c = (reading-start _ _ _ _ _ _ (c .before .first .ensures) (c .new .ensures), search needs, search needs)
 
 slice-aggregate-read-line : tie.Need-slice-aggregate-read-line Inv-loop μ-loop
 slice-aggregate-read-line c = search needs
 
+slice-aggregate-read-line-2 : tie.Need-slice-aggregate-read-line-2 Inv-loop μ-loop
+slice-aggregate-read-line-2 c = search needs
+
 read-line-requires : tie.Need-read-line-requires Inv-loop μ-loop
-read-line-requires c κs = let l = c .before .before .before .before in
+read-line-requires c κs = let l = c .before .before .before .before .before in
     let s = l .before .before .before .before .before .before .before in
     let i = l .loop .inv .0 in
-    (omega (arith, l .loop .inv .1), text-below _ _ _ _ _ _ _ _ i, omega (arith, s .pre .0, s .pre .1, i .same-text), sections-below _ _ _ _ _ _ _ _ i, omega (arith, s .pre .2, i .same-sections), omega (arith, s .pre .3, i .same-entries))
+    (omega (arith, l .loop .inv .1), text-below _ _ _ _ _ _ _ _ i, omega (arith, s .pre .0, s .pre .1, i .same-text), sections-below _ _ _ _ _ _ _ _ i, omega (arith, s .pre .2, i .same-sections), omega (arith, s .pre .3, i .same-entries), omega (arith, l .loop .inv .2))
 
 enum-known-next : tie.Need-enum-known-next Inv-loop μ-loop
 enum-known-next c = search needs
 
 loop-less : tie.Need-loop-less Inv-loop μ-loop
-loop-less c = let j = c .before .before .before .before .before .before .before .before .before .before in
-    let l = j .before .before .before .before .before in
+loop-less c = let j = c .before .before .before .before .before .before .before .before .before .before .before in
+    let l = j .before .before .before .before .before .before in
     let s = l .before .before .before .before .before .before .before in
     let a = s .args in
     let w = j .read-line .last .1 .1 .1 in
@@ -48,14 +51,15 @@ loop-less c = let j = c .before .before .before .before .before .before .before 
     omega (arith, r .later, r .inside)
 
 loop-again : tie.Need-loop-again Inv-loop μ-loop
-loop-again c = let j = c .before .before .before .before .before .before .before .before .before .before in
-    let l = j .before .before .before .before .before in
+loop-again c = let j = c .before .before .before .before .before .before .before .before .before .before .before in
+    let l = j .before .before .before .before .before .before in
     let s = l .before .before .before .before .before .before .before in
     let a = s .args in
     let w = j .read-line .last .1 .1 .1 in
     let k = j .read-line .ensures (l .loop .inv .0 .table) (now (a .text)) (now (a .sections)) (now (a .entries)) (l .loop .inv .0 .holds) in
     let q = c .before .next .given in
-    (reading-more (now (a .file)) (now (a .text)) (now (a .sections)) (now (a .entries)) (l .loop .text) (l .loop .sections) (l .loop .entries) (l .loop .progress) (l .loop .inv .0) (w .0) (w .1 .0) (w .1 .1 .0) (j .read-line .result) k (q .0 .0) (q .1) (search needs) (search needs) (search needs), search needs)
+    let m = c .before .before .before .before .before .entries .given in
+    (reading-more (now (a .file)) (now (a .text)) (now (a .sections)) (now (a .entries)) (l .loop .text) (l .loop .sections) (l .loop .entries) (l .loop .progress) (l .loop .inv .0) (w .0) (w .1 .0) (w .1 .1 .0) (j .read-line .result) k (q .0 .0) (q .1) (search needs) (search needs) (search (needs, m)), search needs, search needs)
 
 enum-told : tie.Need-enum-told Inv-loop μ-loop
 enum-told c = search needs
@@ -74,8 +78,8 @@ same-length-3 c = search needs
 
 returns : tie.Need-returns Inv-loop μ-loop
 returns c = let e = c .before in
-    let j = e .before .before .before .before .before .before .before .before .before in
-    let l = j .before .before .before .before .before in
+    let j = e .before .before .before .before .before .before .before .before .before .before in
+    let l = j .before .before .before .before .before .before in
     let s = l .before .before .before .before .before .before .before in
     let a = s .args in
     let w = j .read-line .last .1 .1 .1 in
@@ -96,8 +100,8 @@ same-length-6 c = search needs
 
 returns-2 : tie.Need-returns-2 Inv-loop μ-loop
 returns-2 c = let e = c .before in
-    let j = e .before .before .before .before .before .before .before .before .before in
-    let l = j .before .before .before .before .before in
+    let j = e .before .before .before .before .before .before .before .before .before .before in
+    let l = j .before .before .before .before .before .before in
     let s = l .before .before .before .before .before .before .before in
     let a = s .args in
     let w = j .read-line .last .1 .1 .1 in
@@ -114,6 +118,7 @@ read-lines-spec =
     new-requires
     loop-holds
     slice-aggregate-read-line
+    slice-aggregate-read-line-2
     read-line-requires
     enum-known-next
     loop-less

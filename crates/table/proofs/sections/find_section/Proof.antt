@@ -1,69 +1,48 @@
--- `find_section`: none of the pairs passed is the name.
+-- `find_section`: the guess is the name, or all are looked at.
 use mathlib.Core.Path.{sym, _∙_}
-use Prim.Native.Nat.{_-_}
 use native.Mathlib.Omega.{arith}
-use Rattle.table.proofs.Search.{Looking, looking-start, looking-found, looking-more, looking-over}
+use Rattle.table.proofs.Search.{found-pair}
 use borrow.Author.Needs.{needs}
 use Rattle.table.proofs.sections.find_section.Statement.{statement}
 use Rattle.table.proofs.sections.find_section.Tie as tie
 
-abbrev Inv-loop : tie.InvT-loop
-Inv-loop name text sections count i₀ i = Looking name text count sections i
-
-abbrev μ-loop : tie.MeasureT-loop
-μ-loop name text sections count i₀ i = count - i
-
-loop-holds : tie.Need-loop-holds Inv-loop μ-loop
-loop-holds c = looking-start _ _ _ _
-
-mul-is-named : tie.Need-mul-is-named Inv-loop μ-loop
+mul-is-named : tie.Need-mul-is-named
 mul-is-named c = search needs
 
-mul-is-named-2 : tie.Need-mul-is-named-2 Inv-loop μ-loop
+mul-is-named-2 : tie.Need-mul-is-named-2
 mul-is-named-2 c = search needs
 
-shared-slice-read-is-named : tie.Need-shared-slice-read-is-named Inv-loop μ-loop
+shared-slice-read-is-named : tie.Need-shared-slice-read-is-named
 shared-slice-read-is-named c = search needs
 
-mul-is-named-3 : tie.Need-mul-is-named-3 Inv-loop μ-loop
+mul-is-named-3 : tie.Need-mul-is-named-3
 mul-is-named-3 c = search needs
 
-add-is-named : tie.Need-add-is-named Inv-loop μ-loop
+add-is-named : tie.Need-add-is-named
 add-is-named c = search needs
 
-mul-is-named-4 : tie.Need-mul-is-named-4 Inv-loop μ-loop
+mul-is-named-4 : tie.Need-mul-is-named-4
 mul-is-named-4 c = search needs
 
-shared-slice-read-is-named-2 : tie.Need-shared-slice-read-is-named-2 Inv-loop μ-loop
+shared-slice-read-is-named-2 : tie.Need-shared-slice-read-is-named-2
 shared-slice-read-is-named-2 c = search needs
 
-is-named-requires : tie.Need-is-named-requires Inv-loop μ-loop
+is-named-requires : tie.Need-is-named-requires
 is-named-requires c κs = search needs
 
-returns : tie.Need-returns Inv-loop μ-loop
-returns c = let l = c .before .before .before .before .before in
-    looking-found _ _ _ _ (l .loop .i) (l .loop .inv) (omega arith) (l .before .before .before .before .pre) (sym (c .before .is-named .ensures) ∙ c .if1 .taken)
+returns : tie.Need-returns
+returns c = found-pair _ _ _ _ _ (omega arith) (sym (c .before .is-named .ensures) ∙ c .if2 .taken)
 
-add-i : tie.Need-add-i Inv-loop μ-loop
-add-i c = search needs
+search-sections-requires : tie.Need-search-sections-requires
+search-sections-requires c κs = search needs
 
-loop-less : tie.Need-loop-less Inv-loop μ-loop
-loop-less c = search needs
-
-loop-again : tie.Need-loop-again Inv-loop μ-loop
-loop-again c = let l = c .before .before .before .before .before in
-    looking-more _ _ _ _ (l .loop .i) (l .loop .inv) (omega arith) (l .before .before .before .before .pre) (sym (c .before .is-named .ensures) ∙ c .if1 .left)
-
-returns-2 : tie.Need-returns-2 Inv-loop μ-loop
-returns-2 c = looking-over _ _ _ _ _ (c .before .loop .inv) (omega arith)
+returns-2 : tie.Need-returns-2
+returns-2 c = search needs
 
 pub find-section-spec : {M : Type 1} → statement M
 find-section-spec =
     tie.close
     (tie.spec
-    Inv-loop
-    μ-loop
-    loop-holds
     mul-is-named
     mul-is-named-2
     shared-slice-read-is-named
@@ -73,7 +52,5 @@ find-section-spec =
     shared-slice-read-is-named-2
     is-named-requires
     returns
-    add-i
-    loop-less
-    loop-again
+    search-sections-requires
     returns-2)

@@ -41,6 +41,9 @@ add-t14 c = search needs
 add-t13 : tie.Need-add-t13
 add-t13 c = search needs
 
+add-t11 : tie.Need-add-t11
+add-t11 c = search needs
+
 same-length : tie.Need-same-length
 same-length c = search needs
 
@@ -71,6 +74,7 @@ put-section-spec =
     slice-write-sections-2
     add-t14
     add-t13
+    add-t11
     same-length
     same-length-2
     returns)

@@ -5,17 +5,14 @@ use borrow.Author.Needs.{needs}
 use Rattle.table.proofs.steps.add_entry.Statement.{statement}
 use Rattle.table.proofs.steps.add_entry.Tie as tie
 
-enum-known-current : tie.Need-enum-known-current
-enum-known-current c = search needs
-
-enum-told : tie.Need-enum-told
-enum-told c = search needs
-
 returns : tie.Need-returns
-returns c = entry-outside _ _ _ _ _ _ (c .enum-told .given .1)
+returns c = entry-outside _ _ _ _ _ _ (c .if1 .taken)
 
 returns-2 : tie.Need-returns-2
-returns-2 c = let k = c .before .before .before in entry-many _ _ _ _ _ _ _ (k .current .given .1) (c .if1 .taken)
+returns-2 c = entry-many _ _ _ _ _ _ (c .before .before .if1 .left) (c .if2 .taken)
+
+sub-put-entry : tie.Need-sub-put-entry
+sub-put-entry c = search needs
 
 put-entry-requires : tie.Need-put-entry-requires
 put-entry-requires c κs = search needs
@@ -29,18 +26,17 @@ same-length-2 c = search needs
 returns-3 : tie.Need-returns-3
 returns-3 c = let p = c .before .before .before .before in
     let e = p .before .before .before in
-    let k = e .before .before .before in
-    let s = k .before .before .before .before .before .before in
-    entry-new _ _ _ _ _ _ _ (k .current .given .1) (e .if1 .left) (omega (arith, s .pre .0)) (p .put-entry .result) _ _ (p .put-entry .ensures)
+    let o = e .before .before in
+    let s = o .before .before .before .before .before in
+    entry-new _ _ _ _ _ _ (o .if1 .left) (e .if2 .left) (omega (arith, s .pre .0)) (p .put-entry .result) _ _ (p .put-entry .ensures)
 
 pub add-entry-spec : {M : Type 1} → statement M
 add-entry-spec =
     tie.close
     (tie.spec
-    enum-known-current
-    enum-told
     returns
     returns-2
+    sub-put-entry
     put-entry-requires
     same-length
     same-length-2

@@ -34,9 +34,12 @@ same-length c = search needs
 same-length-2 : tie.Need-same-length-2
 same-length-2 c = search needs
 
+same-length-3 : tie.Need-same-length-3
+same-length-3 c = search needs
+
 returns-2 : tie.Need-returns-2
-returns-2 c = let p = c .before .before .before .before in
-    let e = p .before .before .before .before in
+returns-2 c = let p = c .before .before .before .before .before .before in
+    let e = p .before .before .before .before .before in
     header-good _ _ _ _ _ (sym (e .before .is-header .ensures) ∙ not-false _ (e .if1 .left)) (p .open-section .result) _ _ (p .open-section .ensures)
 
 pub add-header-line-spec : {M : Type 1} → statement M
@@ -52,4 +55,5 @@ add-header-line-spec =
     open-section-requires
     same-length
     same-length-2
+    same-length-3
     returns-2)

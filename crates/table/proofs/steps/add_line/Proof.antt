@@ -15,7 +15,7 @@ trim-requires c κs = search needs
 
 returns : tie.Need-returns
 returns c = let t = c .before in
-    let s = t .before .before .before .before .before in
+    let s = t .before .before .before .before .before .before in
     let a = s .args in
     let m = now (t .trim .result) in
     let l = trimmed (now (a .line)) in
@@ -35,13 +35,13 @@ part-add-header-line-end : tie.Need-part-add-header-line-end
 part-add-header-line-end c = search needs
 
 add-header-line-requires : tie.Need-add-header-line-requires
-add-header-line-requires c κs = let g = c .before .before .before in
+add-header-line-requires c κs = let g = c .before .before .before .before in
     let t = g .before .before .before in
-    let s = t .before .before .before .before .before in
+    let s = t .before .before .before .before .before .before in
     let a = s .args in
     let m = now (t .trim .result) in
     let l = trimmed (now (a .line)) in
-    (rest-fits m (now (a .line)) (a .state .text) (length (now (a .text))) (t .trim .ensures) (s .pre .0), s .pre .1, s .pre .2)
+    (rest-fits m (now (a .line)) (a .state .text) (length (now (a .text))) (t .trim .ensures) (s .pre .0), s .pre .1, s .pre .2, s .pre .4)
 
 same-length : tie.Need-same-length
 same-length c = search needs
@@ -49,12 +49,15 @@ same-length c = search needs
 same-length-2 : tie.Need-same-length-2
 same-length-2 c = search needs
 
+same-length-3 : tie.Need-same-length-3
+same-length-3 c = search needs
+
 returns-2 : tie.Need-returns-2
-returns-2 c = let p = c .before .before .before .before in
-    let g = p .before .before .before .before in
+returns-2 c = let p = c .before .before .before .before .before .before in
+    let g = p .before .before .before .before .before in
     let e = g .before .before in
     let t = e .before in
-    let s = t .before .before .before .before .before in
+    let s = t .before .before .before .before .before .before in
     let a = s .args in
     let m = now (t .trim .result) in
     let l = trimmed (now (a .line)) in
@@ -66,24 +69,24 @@ returns-2 c = let p = c .before .before .before .before in
 add-entry-line-requires : tie.Need-add-entry-line-requires
 add-entry-line-requires c κs = let g = c .before .before in
     let t = g .before .before .before in
-    let s = t .before .before .before .before .before in
+    let s = t .before .before .before .before .before .before in
     let a = s .args in
     let m = now (t .trim .result) in
     let l = trimmed (now (a .line)) in
     (trimmed-fits m (now (a .line)) (a .state .text) (length (now (a .text))) (t .trim .ensures) (s .pre .0), s .pre .3)
 
-same-length-3 : tie.Need-same-length-3
-same-length-3 c = search needs
-
 same-length-4 : tie.Need-same-length-4
 same-length-4 c = search needs
+
+same-length-5 : tie.Need-same-length-5
+same-length-5 c = search needs
 
 returns-3 : tie.Need-returns-3
 returns-3 c = let p = c .before .before .before .before in
     let g = p .before .before .before in
     let e = g .before .before in
     let t = e .before in
-    let s = t .before .before .before .before .before in
+    let s = t .before .before .before .before .before .before in
     let a = s .args in
     let m = now (t .trim .result) in
     let l = trimmed (now (a .line)) in
@@ -105,8 +108,9 @@ add-line-spec =
     add-header-line-requires
     same-length
     same-length-2
+    same-length-3
     returns-2
     add-entry-line-requires
-    same-length-3
     same-length-4
+    same-length-5
     returns-3)
