@@ -1,10 +1,10 @@
 -- The statements of specs/, each by the module that proves it.
 use Rattle.claims.specs.RoundTrip.{WriteAccepts, SplitComesBack}
-use Rattle.claims.specs.LookUps.{TableThere, FindAfterRead, ValueAfterRead, SettingAfterRead, MissingAfterRead}
+use Rattle.claims.specs.LookUps.{TableThere, FindAfterRead, ValueAfterRead, CheckAfterRead, EntryAfterRead, MissingAfterRead}
 use Rattle.claims.specs.Excluded.{SplitsNothing, SplitsTwo, WritesNothing, WritesTwo}
 use Rattle.claims.specs.ExcludedReads.{ReadsNothing, ReadsTwo, NoOneAnswer, CountsOfTable, RefusalOfFile}
 use Rattle.claims.proofs.CallsBack.{write-accepts, split-comes-back}
-use Rattle.claims.proofs.LookedUp.{table-there, find-after-read, value-after-read, setting-after-read, missing-after-read}
+use Rattle.claims.proofs.LookedUp.{table-there, find-after-read, value-after-read, check-after-read, entry-after-read, missing-after-read}
 use Rattle.claims.proofs.Excluded.{splits-nothing, splits-two, writes-nothing, writes-two}
 use Rattle.claims.proofs.ExcludedReads.{reads-nothing, reads-two, no-one-answer, counts-of-table, refusal-of-file}
 
@@ -23,8 +23,11 @@ read-entries-are-found = find-after-read
 pub read-values-come-back : ValueAfterRead
 read-values-come-back = value-after-read
 
-pub found-is-first-or-last : SettingAfterRead
-found-is-first-or-last = setting-after-read
+pub read-values-are-told : CheckAfterRead
+read-values-are-told = check-after-read
+
+pub found-is-first-or-last : EntryAfterRead
+found-is-first-or-last = entry-after-read
 
 pub missing-is-none : MissingAfterRead
 missing-is-none = missing-after-read

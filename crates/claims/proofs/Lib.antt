@@ -3,7 +3,7 @@ pub mod ListBack
 pub mod CallsBack
 -- look-up after a read: over what the calls promise, and of one function
 pub mod LookedUp
-pub mod Settings
+pub mod FileEntries
 -- wrong programs that the promises rule out
 pub mod Excluded
 pub mod ExcludedReads

@@ -1,35 +1,24 @@
 -- After an accepted read the buffers decode to the file's table; so the questions to them are questions to the table.
-use mathlib.Core.Path.{_≡_, refl, sym, ap, _∙_, subst}
-use Prim.Native.Nat.{ℕ, _+_, _-_, _≤_, _<_}
-use native.Mathlib.Nat.{zero-add}
-use native.Mathlib.Omega.{arith}
-use mathlib.Core.Bool.{Bool, true, false, _||_, cond}
+use mathlib.Core.Path.{_≡_, refl, sym, ap, _∙_}
+use Prim.Native.Nat.{ℕ, _-_}
+use mathlib.Core.Bool.{_||_}
 use mathlib.Core.Option.{Option, none, some}
-use mathlib.Core.List.{List, [], _∷_}
-use lib.ListN.{length, take, drop, length-take, length-drop}
-use lib.Dec.{leb, ltb}
-use borrow.Author.Tests.{le-leb, lt-ltb, le-ltb}
+use lib.ListN.{length}
+use lib.Dec.{ltb}
 use Rattle.lines.specs.Bytes.{Bytes}
 use Rattle.lines.specs.Answers.{Outcome, accepted, refused}
-use Rattle.lines.specs.Buffers.{filled, put}
 use Rattle.lines.proofs.Bools.{by-cases, clash}
-use Rattle.lines.proofs.Buffers.{copied}
-use Rattle.table.specs.Tables.{Table, names, entries, andThen, verdict}
-use Rattle.table.specs.Contents.{textOf, sectionNumbers, entryNumbers}
-use Rattle.table.specs.Answers.{Counts, readMeans, countsOf, counted, textAfter, sectionsAfter, entriesAfter, readIn, Reads}
-use Rattle.table.specs.declared.reader.ReadAnswer.{ReadAnswer}
-use Rattle.table.specs.declared.reader.ReadAnswer.the-variants.{Accepted as ReadAccepted, Refused as ReadRefused}
-use Rattle.table.proofs.Laws.{enough-space-decides}
-use Rattle.lookup.specs.Decoding.{part, Lent, lent, Decoded, tableIn}
-use Rattle.lookup.specs.Questions.{indexesFrom, asked, valueAt, onTable, orMissing, indexIn, valueIn, partIn}
-use Rattle.lookup.specs.Answers.{findMeans, bytesOr, HandsBack}
-use Rattle.lookup.specs.Laws.{NoneOf, Stands, decodedOf, readInto, PartOfValue}
+use Rattle.table.specs.Tables.{Table, names, entries, verdict}
+use Rattle.table.specs.Answers.{countsOf, counted, readIn}
+use Rattle.lookup.specs.Decoding.{Lent, tableIn}
+use Rattle.lookup.specs.Questions.{indexesFrom, asked, onTable, orMissing, Part, indexIn, valueIn, partIn}
+use Rattle.lookup.specs.Answers.{bytesOr}
+use Rattle.lookup.specs.Laws.{Stands, decodedOf, readInto, PartOfValue}
 use Rattle.lookup.specs.declared.search.Which.{Which}
 use Rattle.lookup.specs.declared.search.Which.the-variants.{First, Last}
-use Rattle.lookup.specs.declared.search.FindAnswer.{FindAnswer}
-use Rattle.lookup.proofs.Laws.{first-is-first, last-is-last, none-is-none, parts-are-values, found-have-values, tables-decode}
+use Rattle.lookup.proofs.Laws.{first-is-first, last-is-last, none-is-none, parts-are-values, tables-decode}
 use Rattle.lookup.proofs.Meanings.{value-stands, some-found}
-use Rattle.claims.specs.LookUps.{indexInTable, valueInTable, Accepted, lentAfter, TableThere, FindAfterRead, ValueAfterRead, IsSetting, SettingAfterRead, MissingAfterRead}
+use Rattle.claims.specs.LookUps.{indexInTable, valueInTable, AcceptedRead, lentAfter, FindAfterRead, ValueAfterRead, IsAsked, EntryAfterRead, MissingAfterRead, PartFor, CheckAfterRead}
 
 -- ---- the table that was read
 
@@ -40,7 +29,7 @@ accepted-is x y e = cc e
 not-accepted : {A : Type 0} {X : Type 0} (n p : ℕ) (x : A) → refused n p ≡ accepted x → X
 not-accepted n p x e = let z : _≡_ {A = ℕ} 0 1 = cc e in clash z
 
-module _ (f : Bytes) (c : Accepted f) where
+module _ (f : Bytes) (c : AcceptedRead f) where
   -- the verdict on the call
   abbrev outcome : Outcome Table
   outcome = readIn (length (c .text-before)) (length (c .sections-before)) (length (c .entries-before)) f
@@ -60,7 +49,7 @@ module _ (f : Bytes) (c : Accepted f) where
       go (accepted t) e = (t, e)
       go (refused n p) e = not-accepted n p (c .counts) (sym (c .promise .answer ∙ ap counted (outcome-is ∙ e)) ∙ c .accepted-with)
 
-module _ (f : Bytes) (t : Table) (v : verdict f ≡ accepted t) (c : Accepted f) where
+module _ (f : Bytes) (t : Table) (v : verdict f ≡ accepted t) (c : AcceptedRead f) where
   is-table : outcome f c ≡ accepted t
   is-table = outcome-is f c ∙ v
 
@@ -101,17 +90,26 @@ value-of : (t : Table) (x k : Bytes) (i : ℕ) (s : Stands (names (t .events)) x
 unfolding valueInTable orMissing
 value-of t x k i s = rw (value-stands (names (t .events)) x k (entries (t .events)) i s)
 
-is-setting : (t : Table) (w : Which) (x k : Bytes) (i : ℕ) (b : Bytes) → b ≡ bytesOr (valueInTable t i) → indexInTable t w x k ≡ accepted i → IsSetting t w x k i b
-is-setting t First x k i b q e =
+is-asked : (t : Table) (w : Which) (x k : Bytes) (i : ℕ) (b : Bytes) → b ≡ bytesOr (valueInTable t i) → indexInTable t w x k ≡ accepted i → IsAsked t w x k i b
+is-asked t First x k i b q e =
     let s = first-is-first (names (t .events)) x k (entries (t .events)) i (asked-is t First x k i e) in
     record { entry = s .0; ends = s .1; value = q ∙ value-of t x k i (s .0) }
-is-setting t Last x k i b q e =
+is-asked t Last x k i b q e =
     let s = last-is-last (names (t .events)) x k (entries (t .events)) i (asked-is t Last x k i e) in
     record { entry = s .0; ends = s .1; value = q ∙ value-of t x k i (s .0) }
 
-pub setting-after-read : SettingAfterRead
-setting-after-read f t v c w x k r e i q at p b h =
-    is-setting t w x k i b (value-after-read f t v c i at p b h) (sym (find-after-read f t v c w x k r e) ∙ q)
+pub entry-after-read : EntryAfterRead
+entry-after-read f t v c w x k r e i q at p b h =
+    is-asked t w x k i b (value-after-read f t v c i at p b h) (sym (find-after-read f t v c w x k r e) ∙ q)
+
+-- where the value stands
+part-for : (b : Lent) (i : ℕ) (o : Outcome Part) → PartOfValue b i o → PartFor (b .text) (valueIn b i) o
+part-for b i (accepted p) h = rw (h .1)
+part-for b i (refused n q) h = rw h
+
+pub check-after-read : CheckAfterRead
+check-after-read f t v c i r e =
+    rw (e, ← value-is f t v c i) (part-for (lentAfter c) i (partIn (lentAfter c) i) (parts-are-values (lentAfter c) i))
 
 -- 40 is that none is there
 missing-none : {A : Type 0} (o : Option A) → orMissing o ≡ refused 40 0 → o ≡ none

@@ -1,7 +1,7 @@
 // What the demands say of several calls, as functions that make them.
+mod look_up;
 mod round_trip;
-mod setting;
 
+pub use look_up::LookUpAnswer;
+pub use look_up::read_then_find;
 pub use round_trip::write_then_split;
-pub use setting::SettingAnswer;
-pub use setting::read_then_find;

@@ -1,5 +1,4 @@
 // Reads all of standard input into a buffer of the caller's, in however small pieces it arrives.
-ghost use Prim.Native.Nat.{_≤_};
 ghost use lib.ListN.{length};
 ghost use Rattle.input.specs.Inputs.{Inside};
 use libc::STDIN_FILENO;

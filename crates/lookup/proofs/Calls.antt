@@ -10,14 +10,14 @@ use lib.ListN.{length, take, drop, getD}
 use lib.Dec.{leb}
 use borrow.Author.Tests.{lt-ltb, le-ltb, leb-true, leb-false}
 use Rattle.lines.specs.Bytes.{Bytes}
-use Rattle.lines.specs.Answers.{Outcome, accepted, refused}
+use Rattle.lines.specs.Answers.{accepted, refused}
 use Rattle.lines.proofs.Bools.{impossible, by-cases}
 use Rattle.table.specs.Tables.{Entry}
 use Rattle.lookup.specs.Decoding.{part, namesIn, entriesIn, Lent, Decoded, tableIn}
-use Rattle.lookup.specs.Questions.{asked, indexesFrom, valueAt, Part, valuePart, onTable, orMissing, indexIn, valueIn, partIn}
+use Rattle.lookup.specs.Questions.{valueAt, valuePart, onTable, orMissing, indexIn, valueIn, partIn}
 use Rattle.lookup.specs.Answers.{errorMeans, findMeans, valueMeans, bytesOr, startOr, HandsBack}
 use Rattle.lookup.specs.Laws.{PartOfValue, PartIsValue}
-use Rattle.lookup.specs.Steps.{there, entryOf, Finds}
+use Rattle.lookup.specs.Steps.{there, Finds}
 use Rattle.lookup.specs.declared.error.Error.{Error}
 use Rattle.lookup.specs.declared.error.Error.the-variants.{NoEntry, FaultyRecord}
 use Rattle.lookup.specs.declared.search.Which.{Which}
@@ -35,16 +35,16 @@ not-there (some x) e = impossible (sym e)
 -- ---- the table
 
 module _ (b : Lent) where
-  halves : there (tableIn b)
-      ≡ (there (namesIn (b .text) (b .sectionCount) (b .sections)) && there (entriesIn (b .text) (b .sectionCount) (b .entryCount) (b .entries)))
+  pub halves : there (tableIn b)
+      ≡ (there (namesIn (b .text) (b .sectionCount) (b .sectionNumbers)) && there (entriesIn (b .text) (b .sectionCount) (b .entryCount) (b .entryNumbers)))
   unfolding tableIn
-  halves = there-together (namesIn (b .text) (b .sectionCount) (b .sections)) (entriesIn (b .text) (b .sectionCount) (b .entryCount) (b .entries))
+  halves = there-together (namesIn (b .text) (b .sectionCount) (b .sectionNumbers)) (entriesIn (b .text) (b .sectionCount) (b .entryCount) (b .entryNumbers))
 
-  pub sections-faulty : there (namesIn (b .text) (b .sectionCount) (b .sections)) ≡ false → false ≡ there (tableIn b)
+  pub sections-faulty : there (namesIn (b .text) (b .sectionCount) (b .sectionNumbers)) ≡ false → false ≡ there (tableIn b)
   sections-faulty e = sym (halves ∙ rw e)
 
-  pub entries-decide : there (namesIn (b .text) (b .sectionCount) (b .sections)) ≡ true
-      → (r : Bool) → r ≡ there (entriesIn (b .text) (b .sectionCount) (b .entryCount) (b .entries)) → r ≡ there (tableIn b)
+  pub entries-decide : there (namesIn (b .text) (b .sectionCount) (b .sectionNumbers)) ≡ true
+      → (r : Bool) → r ≡ there (entriesIn (b .text) (b .sectionCount) (b .entryCount) (b .entryNumbers)) → r ≡ there (tableIn b)
   entries-decide e r q = q ∙ sym (halves ∙ rw e)
 
 -- ---- look-up
@@ -68,7 +68,7 @@ module _ (b : Lent) (w : Which) (x k : Bytes) where
 module _ (b : Lent) (i : ℕ) where
   -- the number of entries is the count
   count : (t : Decoded) → tableIn b ≡ some t → length (t .entries) ≡ b .entryCount
-  count t e = entries-count (b .entryCount) (b .entries) (b .text) (b .sectionCount) (t .entries) (table-halves b t e .entries)
+  count t e = entries-count (b .entryCount) (b .entryNumbers) (b .text) (b .sectionCount) (t .entries) (table-halves b t e .entries)
 
   part-faulty : tableIn b ≡ none → partIn b i ≡ refused 41 0
   unfolding partIn onTable
@@ -76,11 +76,11 @@ module _ (b : Lent) (i : ℕ) where
 
   part-missing : (t : Decoded) → tableIn b ≡ some t → b .entryCount ≤ i → partIn b i ≡ refused 40 0
   unfolding partIn onTable orMissing
-  part-missing t e h = rw (e, count t e, le-ltb i (b .entryCount) h)
+  part-missing t e h = rw (e, le-ltb i (b .entryCount) h)
 
-  part-there : (t : Decoded) → tableIn b ≡ some t → i < b .entryCount → partIn b i ≡ accepted (valuePart i (b .entries))
+  part-there : (t : Decoded) → tableIn b ≡ some t → i < b .entryCount → partIn b i ≡ accepted (valuePart i (b .entryNumbers))
   unfolding partIn onTable orMissing
-  part-there t e h = rw (e, count t e, lt-ltb i (b .entryCount) h)
+  part-there t e h = rw (e, lt-ltb i (b .entryCount) h)
 
   pub value-faulty : there (tableIn b) ≡ false → valueMeans (ValueRefused FaultyRecord) ≡ partIn b i
   value-faulty e = sym (part-faulty (not-there (tableIn b) e))
@@ -89,11 +89,11 @@ module _ (b : Lent) (i : ℕ) where
     pub value-missing : b .entryCount ≤ i → valueMeans (ValueRefused NoEntry) ≡ partIn b i
     value-missing h = let w = which-there (tableIn b) e in sym (part-missing (w .0) (w .1) h)
 
-    pub value-there : i < b .entryCount → valueMeans (Accepted (getD (b .entries) (5 * i + 3) 0) (getD (b .entries) (5 * i + 4) 0)) ≡ partIn b i
+    pub value-there : i < b .entryCount → valueMeans (Accepted (getD (b .entryNumbers) (5 * i + 3) 0) (getD (b .entryNumbers) (5 * i + 4) 0)) ≡ partIn b i
     value-there h = let w = which-there (tableIn b) e in sym (part-there (w .0) (w .1) h)
 
     -- the record of an entry is there
-    pub record-of : i < b .entryCount → 5 * i + 5 ≤ length (b .entries)
+    pub record-of : i < b .entryCount → 5 * i + 5 ≤ length (b .entryNumbers)
     record-of h = let w = which-there (tableIn b) e in entry-of b (w .0) (w .1) i h .record-there
 
 -- the value at an index is that of the first entry from there on
@@ -118,7 +118,7 @@ part-is-value b i = go (tableIn b) refl
     past t e h = value-past (t .entries) i (omega (arith, count b i t e))
 
     here : (t : Decoded) → tableIn b ≡ some t → i < b .entryCount
-        → valueAt i (t .entries) ≡ some (part (b .text) (getD (b .entries) (5 * i + 3) 0) (getD (b .entries) (5 * i + 4) 0))
+        → valueAt i (t .entries) ≡ some (part (b .text) (getD (b .entryNumbers) (5 * i + 3) 0) (getD (b .entryNumbers) (5 * i + 4) 0))
     here t e h = value-from (t .entries) i ∙ rw (entry-of b t e i h .here)
 
     go : (o : Option Decoded) → tableIn b ≡ o → PartOfValue b i (partIn b i)

@@ -1,6 +1,6 @@
 -- What the records of a table say: where the buffers hold one, each record is there and good, and it says what stands in
 -- the table at its index.
-use mathlib.Core.Path.{_≡_, refl, sym, ap, _∙_, subst}
+use mathlib.Core.Path.{_≡_, refl, sym, ap, _∙_}
 use Prim.Native.Nat.{ℕ, zero, suc, _+_, _*_, _≤_, _<_}
 use native.Mathlib.Omega.{arith}
 use mathlib.Core.Bool.{Bool, true, false, _&&_}
@@ -13,7 +13,7 @@ use Rattle.lines.specs.Bytes.{Bytes}
 use Rattle.lines.proofs.Bools.{impossible, and-left, and-right}
 use Rattle.table.specs.Tables.{Entry}
 use Rattle.lookup.specs.Decoding.{part, inside, followed, namesIn, entriesIn, Lent, Decoded, together, tableIn}
-use Rattle.lookup.specs.Steps.{there, goodEntry, entryOf, EntryInside}
+use Rattle.lookup.specs.Steps.{there, goodEntry, entryOf}
 
 -- ---- options
 
@@ -74,6 +74,15 @@ name-facts (suc m) (a ∷ n ∷ ns) text xs e j h =
           name-inside = rw (e1, e) (f .name-inside);
           name = rw (e1, e) (ap (λ (l : List Bytes). getD l (suc j) []) (s .list) ∙ f .name);
         }
+
+pub names-count : (m : ℕ) (ns : List ℕ) (text : Bytes) (xs : List Bytes) → namesIn text m ns ≡ some xs → length xs ≡ m
+unfolding namesIn
+names-count zero ns text xs e = ap length (sym (some-same [] xs e))
+names-count (suc m) [] text xs e = nothing-there e
+names-count (suc m) (_ ∷ []) text xs e = nothing-there e
+names-count (suc m) (a ∷ n ∷ ns) text xs e =
+    let q = followed-split (inside text a n) (part text a n) (namesIn text m ns) xs e in
+    ap length (q .list) ∙ ap suc (names-count m ns text (q .rest) (q .behind))
 
 -- ---- entries
 
@@ -150,17 +159,17 @@ entries-count (suc k) (s ∷ a ∷ n ∷ b ∷ l ∷ ns) text m es e =
 
 -- its two halves
 pub record Halves (b : Lent) (t : Decoded) : Type 0 where
-  pub names : namesIn (b .text) (b .sectionCount) (b .sections) ≡ some (t .names)
-  pub entries : entriesIn (b .text) (b .sectionCount) (b .entryCount) (b .entries) ≡ some (t .entries)
+  pub names : namesIn (b .text) (b .sectionCount) (b .sectionNumbers) ≡ some (t .names)
+  pub entries : entriesIn (b .text) (b .sectionCount) (b .entryCount) (b .entryNumbers) ≡ some (t .entries)
 
 pub table-halves : (b : Lent) (t : Decoded) → tableIn b ≡ some t → Halves b t
 unfolding tableIn together
 table-halves b t e =
-    go (namesIn (b .text) (b .sectionCount) (b .sections)) (entriesIn (b .text) (b .sectionCount) (b .entryCount) (b .entries)) refl refl e
+    go (namesIn (b .text) (b .sectionCount) (b .sectionNumbers)) (entriesIn (b .text) (b .sectionCount) (b .entryCount) (b .entryNumbers)) refl refl e
   where
     go : (ns : Option (List Bytes)) (es : Option (List Entry))
-        → namesIn (b .text) (b .sectionCount) (b .sections) ≡ ns
-        → entriesIn (b .text) (b .sectionCount) (b .entryCount) (b .entries) ≡ es
+        → namesIn (b .text) (b .sectionCount) (b .sectionNumbers) ≡ ns
+        → entriesIn (b .text) (b .sectionCount) (b .entryCount) (b .entryNumbers) ≡ es
         → together ns es ≡ some t → Halves b t
     go none es p q e = nothing-there e
     go (some ns) none p q e = nothing-there e
@@ -180,15 +189,15 @@ there-together (some ns) (some es) = refl
 -- ---- an entry of a table
 
 module _ (b : Lent) (t : Decoded) (e : tableIn b ≡ some t) (i : ℕ) (h : i < b .entryCount) where
-  pub entry-of : EntryFacts (b .text) (b .sectionCount) (b .entries) (t .entries) i
-  entry-of = entry-facts (b .entryCount) (b .entries) (b .text) (b .sectionCount) (t .entries) (table-halves b t e .entries) i h
+  pub entry-of : EntryFacts (b .text) (b .sectionCount) (b .entryNumbers) (t .entries) i
+  entry-of = entry-facts (b .entryCount) (b .entryNumbers) (b .text) (b .sectionCount) (t .entries) (table-halves b t e .entries) i h
 
   -- its section
   abbrev pub section : ℕ
-  section = getD (b .entries) (5 * i) 0
+  section = getD (b .entryNumbers) (5 * i) 0
 
-  pub good-of : Good (b .text) (b .sectionCount) (b .entries) (5 * i)
-  good-of = good-parts (b .text) (b .sectionCount) (b .entries) (5 * i) (entry-of .good)
+  pub good-of : Good (b .text) (b .sectionCount) (b .entryNumbers) (5 * i)
+  good-of = good-parts (b .text) (b .sectionCount) (b .entryNumbers) (5 * i) (entry-of .good)
 
-  pub name-of : NameFacts (b .text) (b .sections) (t .names) section
-  name-of = name-facts (b .sectionCount) (b .sections) (b .text) (t .names) (table-halves b t e .names) section (good-of .section)
+  pub name-of : NameFacts (b .text) (b .sectionNumbers) (t .names) section
+  name-of = name-facts (b .sectionCount) (b .sectionNumbers) (b .text) (t .names) (table-halves b t e .names) section (good-of .section)

@@ -1,8 +1,15 @@
 -- The laws that specs/Laws.antt states, each by the module that proves it.
-use Rattle.lookup.specs.Laws.{FirstMeans, LastMeans, NoneMeans, FoundHasValue, PartIsValue, ReadDecodes}
-use Rattle.lookup.proofs.Meanings.{first-means, last-means, none-means, found-has-value}
+use Rattle.lookup.specs.Laws.{TableMeans, TableCounts, FirstMeans, LastMeans, NoneMeans, FoundIsEntry, PartIsValue, ReadDecodes}
+use Rattle.lookup.proofs.Soundness.{table-means, table-counts}
+use Rattle.lookup.proofs.Meanings.{first-means, last-means, none-means, found-is-entry}
 use Rattle.lookup.proofs.Calls.{part-is-value}
 use Rattle.lookup.proofs.ReadBack.{read-decodes}
+
+pub tables-are-sound : TableMeans
+tables-are-sound = table-means
+
+pub counts-are-kept : TableCounts
+counts-are-kept = table-counts
 
 pub first-is-first : FirstMeans
 first-is-first = first-means
@@ -13,8 +20,8 @@ last-is-last = last-means
 pub none-is-none : NoneMeans
 none-is-none = none-means
 
-pub found-have-values : FoundHasValue
-found-have-values = found-has-value
+pub found-are-entries : FoundIsEntry
+found-are-entries = found-is-entry
 
 pub parts-are-values : PartIsValue
 parts-are-values = part-is-value

@@ -6,6 +6,8 @@ pub mod Decoded
 pub mod Searching
 -- the calls
 pub mod Calls
+-- where there is a table
+pub mod Soundness
 -- what first and last mean
 pub mod Meanings
 -- a table laid out decodes to itself

@@ -1,20 +1,19 @@
 -- What the first and the last index say of the entries, and what it says that there is none. By recursion over the
 -- entries, counted from any index.
-use mathlib.Core.Path.{_≡_, refl, sym, ap, _∙_}
+use mathlib.Core.Path.{_≡_, refl, sym, ap}
 use Prim.Native.Nat.{ℕ, suc, _+_}
-use native.Mathlib.Nat.{zero-add}
 use native.Mathlib.Omega.{arith}
-use mathlib.Core.Bool.{true, false}
+use mathlib.Core.Bool.{true}
 use mathlib.Core.Option.{Option, none, some}
 use mathlib.Core.List.{List, [], _∷_, _++_}
 use lib.ListN.{length}
 use Rattle.lines.specs.Bytes.{Bytes}
-use Rattle.lines.specs.Answers.{Outcome, accepted, refused}
+use Rattle.lines.specs.Answers.{accepted}
 use Rattle.lines.proofs.Bools.{by-cases, clash}
 use Rattle.table.specs.Tables.{Entry}
 use Rattle.lookup.specs.Decoding.{Decoded, tableIn}
 use Rattle.lookup.specs.Questions.{isEntry, indexesFrom, firstOf, lastOf, asked, valueAt, onTable, orMissing, indexIn, valueIn}
-use Rattle.lookup.specs.Laws.{NoneOf, Stands, FirstMeans, LastMeans, NoneMeans, FoundHasValue}
+use Rattle.lookup.specs.Laws.{NoneOf, Stands, FirstMeans, LastMeans, NoneMeans, FoundEntry, FoundIsEntry}
 use Rattle.lookup.specs.declared.search.Which.{Which}
 use Rattle.lookup.specs.declared.search.Which.the-variants.{First, Last}
 use Rattle.lookup.proofs.Decoded.{nothing-there}
@@ -153,14 +152,14 @@ unfolding orMissing
 some-found none x e = let z : _≡_ {A = ℕ} 0 1 = cc e in clash z
 some-found (some y) x e = let z : y ≡ x = cc e in rw z
 
-pub found-has-value : FoundHasValue
+pub found-is-entry : FoundIsEntry
 unfolding indexIn valueIn onTable orMissing
-found-has-value b w x k i e = go (tableIn b) refl e
+found-is-entry b w x k i e = go (tableIn b) refl e
   where
     go : (o : Option Decoded) → tableIn b ≡ o
         → onTable o (λ t. orMissing (asked w (indexesFrom 0 (t .names) x k (t .entries)))) ≡ accepted i
-        → (v : Bytes) × (valueIn b i ≡ accepted v)
+        → FoundEntry b x k i
     go none q e = let z : _≡_ {A = ℕ} 0 1 = cc e in clash z
     go (some t) q e =
         let s = asked-stands w (t .names) x k (t .entries) i (some-found (asked w (indexesFrom 0 (t .names) x k (t .entries))) i e) in
-        (s .entry .value, rw (q, value-stands (t .names) x k (t .entries) i s))
+        record { table = t; there = q; stands = s; value = rw (q, value-stands (t .names) x k (t .entries) i s) }

@@ -1,18 +1,17 @@
 -- What a table laid out in the buffers decodes to, whatever stands behind it: the table itself. By recursion over the
 -- events, with the text before them in front.
-use mathlib.Core.Path.{_≡_, refl, sym, ap, _∙_}
-use Prim.Native.Nat.{ℕ, suc, _+_, _≤_, _<_}
+use mathlib.Core.Path.{_≡_, refl, sym, ap}
+use Prim.Native.Nat.{ℕ, _+_, _<_}
 use native.Mathlib.Omega.{arith}
 use mathlib.Core.Bool.{true}
 use mathlib.Core.Option.{some}
 use mathlib.Core.List.{List, [], _∷_, _++_, append-assoc}
-use lib.ListN.{length, take, drop, length-append}
+use lib.ListN.{length, drop, length-append}
 use lib.Seq.{take-at, drop-at}
-use lib.Dec.{leb, ltb}
 use borrow.Author.Tests.{le-leb, lt-ltb}
 use Rattle.lines.specs.Bytes.{Bytes}
 use Rattle.lines.specs.Laws.{All}
-use Rattle.table.specs.Tables.{Entry, Event, newSection, newEntry, Table, names, entries}
+use Rattle.table.specs.Tables.{Entry, Event, newSection, newEntry, names, entries}
 use Rattle.table.specs.Contents.{textOf, sectionRecord, entryRecord, recordsFrom}
 use Rattle.table.proofs.Laws.{entries-are-inside}
 use Rattle.lookup.specs.Decoding.{part, inside, followed, namesIn, entriesIn, together, tableIn}

@@ -1,27 +1,27 @@
 -- The first and the last entry of a section and a key: what the two loops keep, and what the index says.
-use mathlib.Core.Path.{_≡_, refl, sym, ap, _∙_, subst}
+use mathlib.Core.Path.{_≡_, refl, sym, ap, _∙_}
 use Prim.Native.Nat.{ℕ, zero, suc, _+_, _-_, _*_, _≤_, _<_}
 use native.Mathlib.Nat.{add-zero, zero-add}
 use native.Mathlib.Omega.{arith}
-use mathlib.Core.Bool.{Bool, true, false, _&&_, cond}
-use mathlib.Core.Option.{Option, none, some}
-use mathlib.Core.List.{List, [], _∷_, _++_, append-nil}
+use mathlib.Core.Bool.{Bool, true, false}
+use mathlib.Core.Option.{some}
+use mathlib.Core.List.{List, [], _∷_, _++_}
 use lib.ListN.{length, take, drop, getD}
 use lib.Seq.{drop-length}
 use Rattle.lines.specs.Bytes.{Bytes, equal}
 use Rattle.lines.proofs.Bools.{by-cases, and-true, and-false}
 use Rattle.table.specs.Tables.{Entry}
-use Rattle.lookup.specs.Decoding.{part, inside, Lent, lent, Decoded, tableIn}
+use Rattle.lookup.specs.Decoding.{part, Lent, Decoded, tableIn}
 use Rattle.lookup.specs.Questions.{isEntry, indexesFrom, firstOf, lastOf}
-use Rattle.lookup.specs.Steps.{there, goodEntry, entryOf, matchesAt, EntryInside, Finds}
+use Rattle.lookup.specs.Steps.{there, entryOf, matchesAt, EntryInside, Finds}
 use Rattle.lookup.specs.declared.search.Which.the-variants.{First, Last}
-use Rattle.lookup.proofs.Decoded.{which-there, EntryFacts, NameFacts, entry-facts, name-facts, entries-count, table-halves, entry-of, good-of, name-of}
+use Rattle.lookup.proofs.Decoded.{which-there, entries-count, table-halves, entry-of, good-of, name-of}
 
 -- ---- the record of an entry
 
 module _ (b : Lent) (t : Decoded) (e : tableIn b ≡ some t) (i : ℕ) (h : i < b .entryCount) where
   -- it is there, and what it points to is inside
-  pub record-inside : EntryInside (b .text) (b .sections) (b .entries) (5 * i)
+  pub record-inside : EntryInside (b .text) (b .sectionNumbers) (b .entryNumbers) (5 * i)
   record-inside =
       let f = entry-of b t e i h in
       let n = name-of b t e i h in
@@ -33,12 +33,12 @@ module _ (b : Lent) (t : Decoded) (e : tableIn b ≡ some t) (i : ℕ) (h : i < 
       }
 
   -- what the code compares is what the definition compares
-  pub matches-entry : (x k : Bytes) → matchesAt x k (b .text) (b .sections) (b .entries) (5 * i) ≡ isEntry (t .names) x k (entryOf (b .text) (b .entries) (5 * i))
+  pub matches-entry : (x k : Bytes) → matchesAt x k (b .text) (b .sectionNumbers) (b .entryNumbers) (5 * i) ≡ isEntry (t .names) x k (entryOf (b .text) (b .entryNumbers) (5 * i))
   unfolding isEntry
   matches-entry x k = rw (name-of b t e i h .name)
 
 -- so it is wherever the buffers hold a table
-pub inside-there : (b : Lent) → there (tableIn b) ≡ true → (i : ℕ) → i < b .entryCount → EntryInside (b .text) (b .sections) (b .entries) (5 * i)
+pub inside-there : (b : Lent) → there (tableIn b) ≡ true → (i : ℕ) → i < b .entryCount → EntryInside (b .text) (b .sectionNumbers) (b .entryNumbers) (5 * i)
 inside-there b e i h =
     let w = which-there (tableIn b) e in
     record-inside b (w .0) (w .1) i h
@@ -102,21 +102,21 @@ module _ (b : Lent) (x k : Bytes) where
   -- the entries from the count on: none
   past-all : (t : Decoded) → tableIn b ≡ some t → drop (b .entryCount) (t .entries) ≡ []
   past-all t e =
-      let n : length (t .entries) ≡ b .entryCount = entries-count (b .entryCount) (b .entries) (b .text) (b .sectionCount) (t .entries) (table-halves b t e .entries) in
+      let n : length (t .entries) ≡ b .entryCount = entries-count (b .entryCount) (b .entryNumbers) (b .text) (b .sectionCount) (t .entries) (table-halves b t e .entries) in
       rw (← n) (drop-length (t .entries))
 
   module _ (i : ℕ) (h : i < b .entryCount) (t : Decoded) (e : tableIn b ≡ some t) where
-    here : drop i (t .entries) ≡ entryOf (b .text) (b .entries) (5 * i) ∷ drop (suc i) (t .entries)
+    here : drop i (t .entries) ≡ entryOf (b .text) (b .entryNumbers) (5 * i) ∷ drop (suc i) (t .entries)
     here = entry-of b t e i h .here
 
     -- the entry i is one
-    yes : matchesAt x k (b .text) (b .sections) (b .entries) (5 * i) ≡ true
+    yes : matchesAt x k (b .text) (b .sectionNumbers) (b .entryNumbers) (5 * i) ≡ true
         → indexesFrom i (t .names) x k (drop i (t .entries)) ≡ i ∷ indexesFrom (suc i) (t .names) x k (drop (suc i) (t .entries))
     unfolding indexesFrom
     yes q = rw (here, sym (matches-entry b t e i h x k) ∙ q)
 
     -- or not
-    no : matchesAt x k (b .text) (b .sections) (b .entries) (5 * i) ≡ false
+    no : matchesAt x k (b .text) (b .sectionNumbers) (b .entryNumbers) (5 * i) ≡ false
         → indexesFrom i (t .names) x k (drop i (t .entries)) ≡ indexesFrom (suc i) (t .names) x k (drop (suc i) (t .entries))
     unfolding indexesFrom
     no q = rw (here, sym (matches-entry b t e i h x k) ∙ q)
@@ -126,11 +126,11 @@ module _ (b : Lent) (x k : Bytes) where
   first-start = (omega arith, λ t e. refl)
 
   module _ (i : ℕ) (l : FirstAhead b x k i) where
-    pub first-found : i < b .entryCount → matchesAt x k (b .text) (b .sections) (b .entries) (5 * i) ≡ true → Finds b First x k i
+    pub first-found : i < b .entryCount → matchesAt x k (b .text) (b .sectionNumbers) (b .entryNumbers) (5 * i) ≡ true → Finds b First x k i
     unfolding firstOf
     first-found h q t e = (λ m. rw (l .1 t e, yes i h t e q), λ m. absurd (omega arith))
 
-    pub first-more : i < b .entryCount → matchesAt x k (b .text) (b .sections) (b .entries) (5 * i) ≡ false → FirstAhead b x k (i + 1)
+    pub first-more : i < b .entryCount → matchesAt x k (b .text) (b .sectionNumbers) (b .entryNumbers) (5 * i) ≡ false → FirstAhead b x k (i + 1)
     first-more h q =
         let n : i + 1 ≡ suc i = omega arith in
         (omega arith, λ t e. rw n (l .1 t e ∙ no i h t e q))
@@ -148,7 +148,7 @@ module _ (b : Lent) (x k : Bytes) where
   last-start = (omega arith, λ t e. rw (past-all t e))
 
   module _ (i : ℕ) (l : NoneBehind b x k i) where
-    pub last-found : 0 < i → matchesAt x k (b .text) (b .sections) (b .entries) (5 * (i - 1)) ≡ true → Finds b Last x k (i - 1)
+    pub last-found : 0 < i → matchesAt x k (b .text) (b .sectionNumbers) (b .entryNumbers) (5 * (i - 1)) ≡ true → Finds b Last x k (i - 1)
     unfolding lastOf
     last-found h q t e =
         let j : ℕ = i - 1 in
@@ -159,7 +159,7 @@ module _ (b : Lent) (x k : Bytes) where
         indexes-split (t .entries) 0 j (t .names) x k ∙ ap (λ (r : List ℕ). indexesFrom 0 (t .names) x k (take j (t .entries)) ++ r) (rw zero-add p) in
         (λ m. rw (s, last-behind (indexesFrom 0 (t .names) x k (take j (t .entries))) j), λ m. absurd (omega arith))
 
-    pub last-more : 0 < i → matchesAt x k (b .text) (b .sections) (b .entries) (5 * (i - 1)) ≡ false → NoneBehind b x k (i - 1)
+    pub last-more : 0 < i → matchesAt x k (b .text) (b .sectionNumbers) (b .entryNumbers) (5 * (i - 1)) ≡ false → NoneBehind b x k (i - 1)
     last-more h q =
         let n : suc (i - 1) ≡ i = omega arith in
         (omega arith, λ t e. no (i - 1) (omega arith) t e q ∙ rw n (l .1 t e))

@@ -53,9 +53,10 @@ abbrev pub startOr : Outcome Part → ℕ
 startOr (accepted p) = p .start
 startOr (refused n p) = 0
 
--- The promise of `value`: the bytes of the entry's value, and they are a part of the text buffer itself. A slice lies in
--- a block of memory from an offset on; `text` says where the lent one lies, and `result` where the one handed back does.
-pub record HandsBack (b : Lent) (i : ℕ) (text result : ℕ × ℕ) (r : Bytes) : Type 0 where
+-- The promise of `value`: the bytes of the entry's value, and they are a part of the text buffer itself; where there is
+-- none, the part of length 0 at its start. A slice lies in a block of memory from an offset on: `textAt` is where the lent
+-- text lies, and `resultAt` where the slice handed back does.
+pub record HandsBack (b : Lent) (i : ℕ) (textAt resultAt : ℕ × ℕ) (r : Bytes) : Type 0 where
   pub bytes : r ≡ bytesOr (valueIn b i)
-  pub block : result .0 ≡ text .0
-  pub offset : result .1 ≡ text .1 + startOr (partIn b i)
+  pub block : resultAt .0 ≡ textAt .0
+  pub offset : resultAt .1 ≡ textAt .1 + startOr (partIn b i)

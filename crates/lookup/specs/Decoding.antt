@@ -36,7 +36,8 @@ namesIn text (suc m) (a ∷ []) = none
 namesIn text (suc m) (a ∷ n ∷ ns) = followed (inside text a n) (part text a n) (namesIn text m ns)
 
 -- k entries of a table of m sections, from five numbers each: section index, start and length of the key, start and
--- length of the value. A record is faulty that points outside the text or past the section count.
+-- length of the value (the rules' joined text). A record is faulty that points outside the text or past the section
+-- count; and the numbers may not end before the count does.
 unfoldable pub entriesIn : Bytes → (m k : ℕ) → List ℕ → Option (List Entry)
 unfolding followed
 entriesIn text m zero ns = some []
@@ -50,16 +51,17 @@ entriesIn text m (suc k) (i ∷ a ∷ n ∷ b ∷ l ∷ ns) =
 
 -- ---- tables
 
--- what a call is lent: the three buffers (the rules' rooms) and the counts of sections and entries
+-- what a call is lent: the three buffers (the rules' rooms) and the counts of sections and entries; the buffers are lent
+-- to be read alone (`&`), so that no call changes them
 pub record Lent : Type 0 where
   pub text : Bytes
-  pub sections : List ℕ
+  pub sectionNumbers : List ℕ
   pub sectionCount : ℕ
-  pub entries : List ℕ
+  pub entryNumbers : List ℕ
   pub entryCount : ℕ
 
 abbrev pub lent : Bytes → List ℕ → ℕ → List ℕ → ℕ → Lent
-lent text sections m entries k = record { text = text; sections = sections; sectionCount = m; entries = entries; entryCount = k }
+lent text sections m entries k = record { text = text; sectionNumbers = sections; sectionCount = m; entryNumbers = entries; entryCount = k }
 
 -- a table: the sections' names and the entries, each in the order of their indexes
 pub record Decoded : Type 0 where
@@ -77,5 +79,5 @@ unfoldable pub tableIn : Lent → Option Decoded
 unfolding namesIn entriesIn together
 tableIn b =
     together
-    (namesIn (b .text) (b .sectionCount) (b .sections))
-    (entriesIn (b .text) (b .sectionCount) (b .entryCount) (b .entries))
+    (namesIn (b .text) (b .sectionCount) (b .sectionNumbers))
+    (entriesIn (b .text) (b .sectionCount) (b .entryCount) (b .entryNumbers))

@@ -1,10 +1,10 @@
 -- What is known of the definitions: statements, proved in proofs/Laws.antt.
 use mathlib.Core.Path.{_≡_}
-use Prim.Native.Nat.{ℕ, _+_, _≤_}
+use Prim.Native.Nat.{ℕ, _+_, _*_, _≤_, _<_}
 use mathlib.Core.Bool.{true, false}
 use mathlib.Core.Option.{none, some}
 use mathlib.Core.List.{List, _∷_, _++_}
-use lib.ListN.{length}
+use lib.ListN.{length, getD}
 use Rattle.lines.specs.Bytes.{Bytes}
 use Rattle.lines.specs.Answers.{Outcome, accepted, refused}
 use Rattle.lines.specs.Buffers.{filled}
@@ -15,13 +15,35 @@ use Rattle.lookup.specs.Decoding.{part, Lent, lent, Decoded, tableIn}
 use Rattle.lookup.specs.Questions.{isEntry, indexesFrom, firstOf, lastOf, asked, Part, indexIn, valueIn, partIn}
 use Rattle.lookup.specs.declared.search.Which.{Which}
 
+-- ---- what a table is
+
+-- the counts do not pass the buffers, and no record among them is faulty
+pub record Sound (b : Lent) : Type 0 where
+  pub sections-there : 2 * b .sectionCount ≤ length (b .sectionNumbers)
+  pub entries-there : 5 * b .entryCount ≤ length (b .entryNumbers)
+  pub names : (j : ℕ) → j < b .sectionCount
+      → getD (b .sectionNumbers) (2 * j) 0 + getD (b .sectionNumbers) (2 * j + 1) 0 ≤ length (b .text)
+  pub sections : (i : ℕ) → i < b .entryCount → getD (b .entryNumbers) (5 * i) 0 < b .sectionCount
+  pub keys : (i : ℕ) → i < b .entryCount
+      → getD (b .entryNumbers) (5 * i + 1) 0 + getD (b .entryNumbers) (5 * i + 2) 0 ≤ length (b .text)
+  pub values : (i : ℕ) → i < b .entryCount
+      → getD (b .entryNumbers) (5 * i + 3) 0 + getD (b .entryNumbers) (5 * i + 4) 0 ≤ length (b .text)
+
+-- there is a table exactly where this holds; else every question is 41
+abbrev pub TableMeans : Type 0
+TableMeans = (b : Lent) → ((t : Decoded) → tableIn b ≡ some t → Sound b) × (Sound b → (t : Decoded) × (tableIn b ≡ some t))
+
+-- it has as many names and entries as the counts say
+abbrev pub TableCounts : Type 0
+TableCounts = (b : Lent) (t : Decoded) → tableIn b ≡ some t → (length (t .names) ≡ b .sectionCount) × (length (t .entries) ≡ b .entryCount)
+
 -- ---- what first and last mean
 
--- none of these entries is of the section x and has the key k
+-- none of these entries is of a section named x and has the key k
 abbrev pub NoneOf : (ns : List Bytes) (x k : Bytes) → List Entry → Type 0
 NoneOf ns x k es = All (λ (e : Entry). isEntry ns x k e ≡ false) es
 
--- the entry with index i is such an entry; it stands between others
+-- the entry with index i is such an entry; front and back are those before it and behind it
 pub record Stands (ns : List Bytes) (x k : Bytes) (es : List Entry) (i : ℕ) : Type 0 where
   pub front : List Entry
   pub entry : Entry
@@ -45,13 +67,19 @@ abbrev pub NoneMeans : Type 0
 NoneMeans = (w : Which) (ns : List Bytes) (x k : Bytes) (es : List Entry)
     → (asked w (indexesFrom 0 ns x k es) ≡ none → NoneOf ns x k es) × (NoneOf ns x k es → asked w (indexesFrom 0 ns x k es) ≡ none)
 
--- an index that was found is that of an entry, and has a value
-abbrev pub FoundHasValue : Type 0
-FoundHasValue = (b : Lent) (w : Which) (x k : Bytes) (i : ℕ) → indexIn b w x k ≡ accepted i → (v : Bytes) × (valueIn b i ≡ accepted v)
+-- an index that was found in what is lent is that of such an entry, and asks for its value
+pub record FoundEntry (b : Lent) (x k : Bytes) (i : ℕ) : Type 0 where
+  pub table : Decoded
+  pub there : tableIn b ≡ some table
+  pub stands : Stands (table .names) x k (table .entries) i
+  pub value : valueIn b i ≡ accepted (stands .entry .value)
+
+abbrev pub FoundIsEntry : Type 0
+FoundIsEntry = (b : Lent) (w : Which) (x k : Bytes) (i : ℕ) → indexIn b w x k ≡ accepted i → FoundEntry b x k i
 
 -- ---- the part that a value is
 
--- where there is a value, its part is inside the text and is the value; else both questions have one refusal
+-- where there is a value, its part is inside the text and is the value; else both questions have the same refusal
 abbrev pub PartOfValue : Lent → ℕ → Outcome Part → Type 0
 PartOfValue b i (accepted p) = (p .start + p .size ≤ length (b .text)) × (valueIn b i ≡ accepted (part (b .text) (p .start) (p .size)))
 PartOfValue b i (refused n q) = valueIn b i ≡ refused n q

@@ -3,7 +3,7 @@ use Prim.Native.Nat.{ℕ, zero, suc, _+_, _*_}
 use mathlib.Core.Bool.{Bool, _&&_, cond}
 use mathlib.Core.Option.{Option, none, some}
 use mathlib.Core.List.{List, [], _∷_}
-use lib.ListN.{length, getD}
+use lib.ListN.{getD}
 use lib.Dec.{ltb}
 use Rattle.lines.specs.Bytes.{Bytes, equal}
 use Rattle.lines.specs.Answers.{Outcome, accepted, refused}
@@ -14,7 +14,8 @@ use Rattle.lookup.specs.declared.search.Which.the-variants.{First, Last}
 
 -- ---- look-up by section name and key
 
--- an entry of a section with the name x, and with the key k; ns are the names of all sections
+-- an entry of a section with the name x, and with the key k; ns are the names of all sections, and in a table the index of
+-- an entry's section is always below their number
 unfoldable pub isEntry : (ns : List Bytes) (x k : Bytes) → Entry → Bool
 unfolding equal
 isEntry ns x k e = equal x (getD ns (e .section) []) && equal k (e .key)
@@ -41,7 +42,7 @@ abbrev pub asked : Which → List ℕ → Option ℕ
 asked First is = firstOf is
 asked Last is = lastOf is
 
--- ---- an entry's value
+-- ---- an entry's value (the rules' joined text)
 
 -- the value of the entry with an index
 unfoldable pub valueAt : (i : ℕ) → List Entry → Option Bytes
@@ -49,7 +50,7 @@ valueAt i [] = none
 valueAt zero (e ∷ es) = some (e .value)
 valueAt (suc i) (e ∷ es) = valueAt i es
 
--- a part of the text: start and length
+-- a part of the text: where it starts, and its size in bytes
 pub record Part : Type 0 where
   pub start : ℕ
   pub size : ℕ
@@ -60,7 +61,7 @@ valuePart i ns = record { start = getD ns (5 * i + 3) 0; size = getD ns (5 * i +
 
 -- ---- verdicts; the place of both refusals is 0
 
--- 41 where a record is faulty, before anything is asked
+-- 41 where a record is faulty or a count passes its buffer, before anything is asked
 unfoldable pub onTable : {A : Type 0} → Option Decoded → (Decoded → Outcome A) → Outcome A
 onTable none ask = refused 41 0
 onTable (some t) ask = ask t
@@ -80,8 +81,8 @@ unfoldable pub valueIn : Lent → ℕ → Outcome Bytes
 unfolding tableIn onTable orMissing valueAt
 valueIn b i = onTable (tableIn b) (λ t. orMissing (valueAt i (t .entries)))
 
--- where it stands in the text
+-- where it stands in the text; 40 where the index is not below the count
 unfoldable pub partIn : Lent → ℕ → Outcome Part
 unfolding tableIn onTable orMissing
 partIn b i =
-    onTable (tableIn b) (λ t. orMissing (cond (ltb i (length (t .entries))) (some (valuePart i (b .entries))) none))
+    onTable (tableIn b) (λ t. orMissing (cond (ltb i (b .entryCount)) (some (valuePart i (b .entryNumbers))) none))

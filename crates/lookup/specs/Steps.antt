@@ -3,7 +3,7 @@ use mathlib.Core.Path.{_≡_}
 use Prim.Native.Nat.{ℕ, _+_, _*_, _≤_, _<_}
 use mathlib.Core.Bool.{Bool, true, false, _&&_}
 use mathlib.Core.Option.{Option, none, some}
-use mathlib.Core.List.{List, []}
+use mathlib.Core.List.{List}
 use lib.ListN.{length, getD}
 use lib.Dec.{ltb}
 use Rattle.lines.specs.Bytes.{Bytes, equal}
@@ -32,7 +32,7 @@ entryOf text ns at =
 
 -- ---- search
 
--- the entry's record from an index on is of the section x and the key k
+-- the entry's record from an index on is of a section named x, and has the key k
 abbrev pub matchesAt : (x k text : Bytes) (sections entries : List ℕ) (at : ℕ) → Bool
 matchesAt x k text sections entries at =
     equal x (part text (getD sections (2 * getD entries at 0) 0) (getD sections (2 * getD entries at 0 + 1) 0))
@@ -48,7 +48,7 @@ abbrev pub Finds : Lent → Which → (x k : Bytes) (r : ℕ) → Type 0
 Finds b w x k r =
     (t : Decoded) → tableIn b ≡ some t → IndexOrMore (b .entryCount) (asked w (indexesFrom 0 (t .names) x k (t .entries))) r
 
--- the entry's record from an index on is there, and its key and its section's name are inside the text
+-- the entry's record from an index on and its section's are there, and its key and its section's name are inside the text
 pub record EntryInside (text : Bytes) (sections entries : List ℕ) (at : ℕ) : Type 0 where
   pub there-is : at + 5 ≤ length entries
   pub key : getD entries (at + 1) 0 + getD entries (at + 2) 0 ≤ length text

@@ -1,9 +1,7 @@
 // The records of sections and entries, and which are faulty.
 ghost use mathlib.Core.Path.{_≡_};
-ghost use mathlib.Core.Bool.{_&&_};
 ghost use Prim.Native.Nat.{_+_, _≤_};
-ghost use lib.ListN.{length, getD};
-ghost use lib.Dec.{ltb};
+ghost use lib.ListN.{length};
 ghost use Rattle.lookup.specs.Decoding.{inside, namesIn, entriesIn, lent, tableIn};
 ghost use Rattle.lookup.specs.Steps.{there, goodEntry};
 

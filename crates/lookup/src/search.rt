@@ -32,7 +32,8 @@ fn is_part(bytes: &[u8], text: &[u8], start: usize, size: usize) -> bool
     lines::same(bytes, &text[start..start + size])
 }
 
-// Whether the record from an index on is that of an entry with this section name and key. Its parts are inside the text.
+// Whether the record from an index on is that of an entry with this section name and key. It is there, and so is its
+// section's; their parts are inside the text.
 fn is_entry(
     section: &[u8],
     key: &[u8],
@@ -134,7 +135,8 @@ fn find_entry(
 }
 
 // Looks an entry up in the table that the buffers hold, with these counts of sections and entries: the index of the first
-// or the last entry with this section name and key. The buffers may have any size and hold any numbers.
+// or the last entry with this section name and key. The buffers may have any size and hold any numbers: 41 where a record
+// among the counts is faulty or a count passes its buffer, then 40 where there is no such entry.
 pub fn find(
     section: &[u8],
     key: &[u8],

@@ -1,4 +1,4 @@
-// The value of an entry, by its index.
+// The value (the rules' joined text) of an entry, by its index.
 use crate::error::Error;
 use crate::records::holds_table;
 ghost use mathlib.Core.Path.{_≡_};
@@ -26,7 +26,8 @@ fn value_part(entries: &[usize], at: usize) -> ValueAnswer
     }
 }
 
-// Whether the entry with this index has a value in the table that the buffers hold, and where it stands.
+// Where the value of the entry with this index stands in the text: 41 where a record among the counts is faulty or a count
+// passes its buffer, then 40 where the index is not below the count.
 pub fn value_check(
     index: usize,
     text: &[u8],

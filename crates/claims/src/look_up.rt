@@ -8,7 +8,7 @@ ghost use Rattle.lookup.specs.Decoding.{lent};
 ghost use Rattle.claims.specs.LookUps.{Gets};
 ghost use Rattle.claims.specs.Steps.{Asks};
 
-pub enum SettingAnswer {
+pub enum LookUpAnswer {
     // The index of the entry, and the length of its value.
     Found { index: usize, length: usize },
     NotRead(table::Error),
@@ -26,7 +26,7 @@ fn find_then_value(
     entries: &[usize],
     entry_count: usize,
     out: &mut [u8],
-) -> SettingAnswer
+) -> LookUpAnswer
     requires { ⌜ length (now text) ≤ length (now out) ⌝ }
     ensures { λ r. ⌜ Asks (lent (now (text .entry)) (now (sections .entry)) «section_count» (now (entries .entry)) «entry_count») which (now (section .entry)) (now (key .entry)) (now (out .entry)) r (now (out .exit)) ⌝ }
 {
@@ -43,28 +43,29 @@ fn find_then_value(
         FindAnswer::Found(index) => {
             let value = lookup::value(index, text, sections, section_count, entries, entry_count);
             lines::copy_into(value, out, 0);
-            SettingAnswer::Found {
+            LookUpAnswer::Found {
                 index,
                 length: value.len(),
             }
         }
-        FindAnswer::Refused(e) => SettingAnswer::NotFound(e),
+        FindAnswer::Refused(e) => LookUpAnswer::NotFound(e),
     }
 }
 
-// The first or the last entry of a file with this section name and key: its value at the front of `out`, which has at
-// least 65,535 bytes. The rest of it stays, and a refused call changes nothing.
+// The first or the last entry of a file with this section name and key: its value at the front of `out`. The rest of it
+// stays, and a refused call changes nothing. An `out` of fewer than 65,535 bytes is refused with 1. It is no question of
+// the rules, which copy nothing: it makes the three calls, and has as its promise what the rules say of them together.
 pub fn read_then_find(
     file: &[u8],
     section: &[u8],
     key: &[u8],
     which: Which,
     out: &mut [u8],
-) -> SettingAnswer
+) -> LookUpAnswer
     ensures { λ r. ⌜ Gets (now (file .entry)) which (now (section .entry)) (now (key .entry)) (now (out .entry)) r (now (out .exit)) ⌝ }
 {
     if out.len() < 65535 {
-        return SettingAnswer::NotRead(table::Error::File(lines::Error::ShortBuffer));
+        return LookUpAnswer::NotRead(table::Error::File(lines::Error::ShortBuffer));
     }
     let mut text = [0u8; 65535];
     let mut sections = [0usize; 128];
@@ -75,6 +76,6 @@ pub fn read_then_find(
             sections: s,
             entries: k,
         } => find_then_value(section, key, which, &text, &sections, s, &entries, k, out),
-        ReadAnswer::Refused(e) => SettingAnswer::NotRead(e),
+        ReadAnswer::Refused(e) => LookUpAnswer::NotRead(e),
     }
 }

@@ -1,10 +1,9 @@
 -- `read_then_find`: the buffer, the read call, then the questions.
-use native.Mathlib.Omega.{arith}
 use denote.Ref.{now}
-use Rattle.claims.proofs.Settings.{gets-short, gets-refused, gets-asked}
+use Rattle.claims.proofs.FileEntries.{gets-short, gets-refused, gets-asked}
 use borrow.Author.Needs.{needs}
-use Rattle.claims.proofs.setting.read_then_find.Statement.{statement}
-use Rattle.claims.proofs.setting.read_then_find.Tie as tie
+use Rattle.claims.proofs.look_up.read_then_find.Statement.{statement}
+use Rattle.claims.proofs.look_up.read_then_find.Tie as tie
 
 returns : tie.Need-returns
 returns c = gets-short _ _ _ _ _ (c .if1 .taken)

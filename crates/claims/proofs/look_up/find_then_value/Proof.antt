@@ -1,10 +1,10 @@
 -- `find_then_value`: look-up, then the value, copied.
 use denote.Ref.{now}
 use Rattle.lookup.specs.Decoding.{lent}
-use Rattle.claims.proofs.Settings.{asks-found, asks-missing}
+use Rattle.claims.proofs.FileEntries.{asks-found, asks-missing}
 use borrow.Author.Needs.{needs}
-use Rattle.claims.proofs.setting.find_then_value.Statement.{statement}
-use Rattle.claims.proofs.setting.find_then_value.Tie as tie
+use Rattle.claims.proofs.look_up.find_then_value.Statement.{statement}
+use Rattle.claims.proofs.look_up.find_then_value.Tie as tie
 
 find-requires : tie.Need-find-requires
 find-requires c κs = search needs
