@@ -14,7 +14,7 @@ use Rattle.lines.specs.Buffers.{put}
 use Rattle.lines.specs.declared.error.Error.the-variants.{ShortBuffer}
 use Rattle.lines.proofs.Buffers.{copied}
 use Rattle.table.specs.Tables.{Table, andThen, verdict}
-use Rattle.table.specs.Answers.{numberOf, placeOf, errorMeans, readMeans, counted, Reads}
+use Rattle.table.specs.Answers.{numberOf, placeOf, errorMeans, readMeans, countsOf, counted, Reads}
 use Rattle.table.specs.declared.error.Error.{Error}
 use Rattle.table.specs.declared.error.Error.the-variants.{File}
 use Rattle.table.specs.declared.reader.ReadAnswer.{ReadAnswer}
@@ -34,7 +34,7 @@ use Rattle.claims.specs.LookUps.{AcceptedRead, lentAfter, indexInTable, 
 use Rattle.claims.specs.Steps.{lookUpLent, Asks}
 use Rattle.claims.specs.declared.look_up.LookUpAnswer.{LookUpAnswer}
 use Rattle.claims.specs.declared.look_up.LookUpAnswer.the-variants.{Found, NotRead, NotFound}
-use Rattle.claims.proofs.LookedUp.{table-there, index-is, value-is}
+use Rattle.claims.proofs.LookedUp.{not-accepted, table-there, index-is, value-is}
 
 -- ---- what an answer and a buffer say of an outcome
 
@@ -58,10 +58,7 @@ module _ (b : Lent) (w : Which) (x k : Bytes) (out : Bytes) where
       go (accepted p) h =
           let q : v ≡ take (p .size) (drop (p .start) (b .text)) = cc (sym e ∙ h .1) in
           omega (arith, ap length q, length-take (p .size) (drop (p .start) (b .text)), h .0)
-      go (refused n p) h = absurd-outcome (sym h ∙ e)
-        where
-          absurd-outcome : refused n p ≡ accepted v → length v ≤ length (b .text)
-          absurd-outcome z = let y : _≡_ {A = ℕ} 0 1 = cc z in absurd (omega arith)
+      go (refused n p) h = not-accepted n p v (sym h ∙ e)
 
   module _ (r : FindAnswer) (i : ℕ) (q : r ≡ FindFound i) (e : findMeans r ≡ indexIn b w x k)
       (at p : ℕ × ℕ) (v : Bytes) (h : HandsBack b i at p v) (l : length (b .text) ≤ length out) where
@@ -105,7 +102,7 @@ module _ (f : Bytes) (w : Which) (x k : Bytes) (out : Bytes) where
         gets (errorMeans e) (rw (le-ltb (length out) 65535 h, o)) (NotRead e) out refl refl
       where
         same-refusal : (o : Outcome Table) → counted o ≡ errorMeans e → o ≡ errorMeans e
-        same-refusal (accepted t) z = let y : _≡_ {A = ℕ} 0 1 = cc z in absurd (omega arith)
+        same-refusal (accepted t) z = not-accepted (numberOf e) (placeOf e) (countsOf t) (sym z)
         same-refusal (refused n m) z = let y : n ≡ numberOf e = cc z in let i : m ≡ placeOf e = cc z in rw (y, i)
 
     -- the file has a table

@@ -26,7 +26,7 @@ use Rattle.claims.specs.LookUps.{indexInTable, valueInTable, AcceptedRea
 accepted-is : {A : Type 0} (x y : A) → accepted x ≡ accepted y → x ≡ y
 accepted-is x y e = cc e
 
-not-accepted : {A : Type 0} {X : Type 0} (n p : ℕ) (x : A) → refused n p ≡ accepted x → X
+pub not-accepted : {A : Type 0} {X : Type 0} (n p : ℕ) (x : A) → refused n p ≡ accepted x → X
 not-accepted n p x e = let z : _≡_ {A = ℕ} 0 1 = cc e in clash z
 
 module _ (f : Bytes) (c : AcceptedRead f) where

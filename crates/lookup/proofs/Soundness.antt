@@ -50,39 +50,33 @@ run-there zero at ns w f good r h = r .nothing (drop at ns)
 run-there (suc m) at ns w f good r h =
     r .more m at (h .0) ∙ both (good at) (f m (drop (at + w) ns)) (h .1) (run-there m (at + w) ns w f good r (h .2))
 
-two-run : (m at : ℕ) (ns : List ℕ) (good : ℕ → Bool) → at + 2 * m ≤ length ns → ((j : ℕ) → j < m → good (at + 2 * j) ≡ true) → Run ns 2 good m at
-two-run zero at ns good h g = tt
-two-run (suc m) at ns good h g = (
-  omega arith,
-  (let e : at ≡ at + 2 * 0 = omega arith in rw e (g 0 (omega arith))),
-  two-run m (at + 2) ns good (omega arith) (λ j l. let e : at + 2 + 2 * j ≡ at + 2 * suc j = omega arith in rw e (g (suc j) (omega arith))),
-)
-
-five-run : (m at : ℕ) (ns : List ℕ) (good : ℕ → Bool) → at + 5 * m ≤ length ns → ((j : ℕ) → j < m → good (at + 5 * j) ≡ true) → Run ns 5 good m at
-five-run zero at ns good h g = tt
-five-run (suc m) at ns good h g = (
-  omega arith,
-  (let e : at ≡ at + 5 * 0 = omega arith in rw e (g 0 (omega arith))),
-  five-run m (at + 5) ns good (omega arith) (λ j l. let e : at + 5 + 5 * j ≡ at + 5 * suc j = omega arith in rw e (g (suc j) (omega arith))),
+-- records that are there and good, each w numbers behind the one before, where the record i starts at the index `start i`
+run-all : (m j : ℕ) (ns : List ℕ) (w : ℕ) (good : ℕ → Bool) (start : ℕ → ℕ) → ((i : ℕ) → start (suc i) ≡ start i + w)
+    → ((i : ℕ) → i < j + m → (start i + w ≤ length ns) × (good (start i) ≡ true)) → Run ns w good m (start j)
+run-all zero j ns w good start next h = tt
+run-all (suc m) j ns w good start next h = (
+  h j (omega arith) .0,
+  h j (omega arith) .1,
+  rw (← next j) (run-all m (suc j) ns w good start next (λ i l. h i (omega arith))),
 )
 
 module _ (b : Lent) (s : Sound b) where
   names-there : there (namesIn (b .text) (b .sectionCount) (b .sectionNumbers)) ≡ true
   names-there =
       run-there (b .sectionCount) 0 (b .sectionNumbers) 2 _ _ (sections-by-records (b .text) (b .sectionNumbers))
-      (two-run (b .sectionCount) 0 (b .sectionNumbers) (λ at. inside (b .text) (getD (b .sectionNumbers) at 0) (getD (b .sectionNumbers) (at + 1) 0))
-      (omega (arith, s .sections-there))
-      (λ j h. let e : 0 + 2 * j ≡ 2 * j = omega arith in rw e (le-leb _ _ (s .names j h))))
+      (run-all (b .sectionCount) 0 (b .sectionNumbers) 2 (λ at. inside (b .text) (getD (b .sectionNumbers) at 0) (getD (b .sectionNumbers) (at + 1) 0))
+      (λ i. 2 * i) (λ i. omega arith)
+      (λ i h. (omega (arith, s .sections-there), le-leb _ _ (s .names i (omega arith)))))
 
   entries-there : there (entriesIn (b .text) (b .sectionCount) (b .entryCount) (b .entryNumbers)) ≡ true
   entries-there =
       run-there (b .entryCount) 0 (b .entryNumbers) 5 _ _ (entries-by-records (b .text) (b .sectionCount) (b .entryNumbers))
-      (five-run (b .entryCount) 0 (b .entryNumbers) (goodEntry (b .text) (b .sectionCount) (b .entryNumbers)) (omega (arith, s .entries-there)) good)
+      (run-all (b .entryCount) 0 (b .entryNumbers) 5 (goodEntry (b .text) (b .sectionCount) (b .entryNumbers))
+      (λ i. 5 * i) (λ i. omega arith)
+      (λ i h. (omega (arith, s .entries-there), good i (omega arith))))
     where
-      good : (i : ℕ) → i < b .entryCount → goodEntry (b .text) (b .sectionCount) (b .entryNumbers) (0 + 5 * i) ≡ true
-      good i h =
-          let e : 0 + 5 * i ≡ 5 * i = omega arith in
-          rw (e, lt-ltb _ _ (s .sections i h), le-leb _ _ (s .keys i h), le-leb _ _ (s .values i h))
+      good : (i : ℕ) → i < b .entryCount → goodEntry (b .text) (b .sectionCount) (b .entryNumbers) (5 * i) ≡ true
+      good i h = rw (lt-ltb _ _ (s .sections i h), le-leb _ _ (s .keys i h), le-leb _ _ (s .values i h))
 
 pub table-means : TableMeans
 table-means b = (

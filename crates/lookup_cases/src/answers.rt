@@ -7,7 +7,7 @@ use lookup::FindAnswer;
 use lookup::ValueAnswer;
 use lookup::Which;
 
-// The index of an entry.
+// The index of an entry, and its value where that is asked for too.
 pub(crate) fn find(
     which: Which,
     section: &[u8],
@@ -17,40 +17,21 @@ pub(crate) fn find(
     m: usize,
     entries: &[usize],
     k: usize,
+    with_value: bool,
 ) {
     match lookup::find(section, key, which, text, sections, m, entries, k) {
         FindAnswer::Found(index) => {
-            print_entry(index);
-            print(b"\n");
+            print(b"entry ");
+            print_number(index);
+            if with_value {
+                print(b", ");
+                value(index, text, sections, m, entries, k);
+            } else {
+                print(b"\n");
+            }
         }
         FindAnswer::Refused(e) => print_refused(e.number(), e.place()),
     }
-}
-
-// The index of an entry, and its value.
-pub(crate) fn find_value(
-    which: Which,
-    section: &[u8],
-    key: &[u8],
-    text: &[u8],
-    sections: &[usize],
-    m: usize,
-    entries: &[usize],
-    k: usize,
-) {
-    match lookup::find(section, key, which, text, sections, m, entries, k) {
-        FindAnswer::Found(index) => {
-            print_entry(index);
-            print(b", ");
-            value(index, text, sections, m, entries, k);
-        }
-        FindAnswer::Refused(e) => print_refused(e.number(), e.place()),
-    }
-}
-
-fn print_entry(index: usize) {
-    print(b"entry ");
-    print_number(index);
 }
 
 // The part of the text that is handed back, and where it stands or why there is none.

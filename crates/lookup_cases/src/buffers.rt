@@ -101,7 +101,17 @@ fn ask(
     k: usize,
 ) {
     match question {
-        Question::Find(which) => answers::find(which, section, key, text, sections, m, entries, k),
+        Question::Find(which) => answers::find(
+            which,
+            section,
+            key,
+            text,
+            sections,
+            m,
+            entries,
+            k,
+            false,
+        ),
         Question::Value(index) => answers::value(index, text, sections, m, entries, k),
     }
 }

@@ -51,7 +51,7 @@ fn read_into(
             text: _,
             sections: m,
             entries: k,
-        } => answers::find_value(which, section, key, text, sections, m, entries, k),
+        } => answers::find(which, section, key, text, sections, m, entries, k, true),
         ReadAnswer::Refused(e) => {
             print(b"not read, ");
             print_refused(e.number(), e.place());
