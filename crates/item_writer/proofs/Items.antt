@@ -6,8 +6,9 @@ use mathlib.Core.Bool.{false}
 use lib.ListN.{length, set}
 use Rattle.lines.specs.Bytes.{Bytes}
 use Rattle.items.specs.Write.{isBare, inQuotes, writtenItem}
-use Rattle.item_writer.specs.Steps.{following, Puts}
-use Rattle.item_writer.proofs.Putting.{puts-byte, puts-then}
+use Rattle.lines.specs.Buffers.{Puts}
+use Rattle.item_writer.specs.Steps.{following}
+use Rattle.lines.proofs.Putting.{puts-byte, puts-then}
 use Rattle.item_writer.proofs.Written.{item-quoted, following-later, quoted-most}
 
 module _ (x d : Bytes) (at end : ℕ) (d' : Bytes) where

@@ -1,6 +1,5 @@
 -- loops over lists, and what is put into a text
 pub mod Rest
-pub mod Putting
 -- bytes, items and lists as they are written
 pub mod Bare
 pub mod Forms

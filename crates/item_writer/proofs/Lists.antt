@@ -9,9 +9,10 @@ use lib.ListN.{length, take, drop, getD, length-append, length-drop, drop-of-len
 use lib.Seq.{length-take-le}
 use Rattle.lines.specs.Bytes.{Bytes}
 use Rattle.items.specs.Write.{endsFit, cutFrom, itemsIn, written, lastEnd}
-use Rattle.item_writer.specs.Steps.{following, Puts}
+use Rattle.lines.specs.Buffers.{Puts}
+use Rattle.item_writer.specs.Steps.{following}
 use Rattle.item_writer.proofs.Rest.{fit-here, cut-here, last-here}
-use Rattle.item_writer.proofs.Putting.{puts-nothing, puts-then}
+use Rattle.lines.proofs.Putting.{puts-nothing, puts-then}
 use Rattle.item_writer.proofs.Written.{written-snoc, following-most}
 use Rattle.item_writer.proofs.Cuts.{FirstEnd, first-end, last-above}
 

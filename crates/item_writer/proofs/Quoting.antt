@@ -8,8 +8,8 @@ use lib.ListN.{length, take, getD}
 use lib.Seq.{take-suc, take-all}
 use Rattle.lines.specs.Bytes.{Bytes}
 use Rattle.items.specs.Write.{writtenByte, inQuotes}
-use Rattle.item_writer.specs.Steps.{Puts}
-use Rattle.item_writer.proofs.Putting.{puts-nothing, puts-then}
+use Rattle.lines.specs.Buffers.{Puts}
+use Rattle.lines.proofs.Putting.{puts-nothing, puts-then}
 use Rattle.item_writer.proofs.Forms.{byte-length}
 use Rattle.item_writer.proofs.Written.{inQuotes-snoc}
 

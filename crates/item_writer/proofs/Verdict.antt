@@ -17,7 +17,7 @@ use Rattle.items.specs.declared.error.Error.{Error}
 use Rattle.items.specs.declared.error.Error.the-variants.{ShortBuffer, TextTooLong, TooManyItems, NulByte, BadEnds}
 use Rattle.items.specs.Write.{endsFit, itemsIn, written, nul, writeIn, lastEnd}
 use Rattle.item_writer.specs.Answers.{Writes}
-use Rattle.item_writer.specs.Steps.{Puts}
+use Rattle.lines.specs.Buffers.{Puts}
 use Rattle.item_writer.specs.declared.writer.WriteAnswer.the-variants.{Accepted, Refused}
 use Rattle.item_writer.proofs.Written.{written-least}
 use Rattle.items.proofs.Laws.{cut-is-laid-again}
@@ -77,7 +77,7 @@ module _ (bs : Bytes) (ends : List ℕ) (d : Bytes) where
               let t : Bytes = written (itemsIn bs ends) in
               let size : r ≡ length t = p .behind ∙ zero-add (length t) in
               let n : r - 0 ≡ length t = omega arith in
-              let front : take (r - 0) text ≡ t = rw (n, p .text-after) (take-at t (drop (0 + length t) other) (length t) refl) in
+              let front : take (r - 0) text ≡ t = rw (n, p .after) (take-at t (drop (0 + length t) other) (length t) refl) in
               let w = text-written (omega arith) in
               let fits : leb (0 + length t) (length d) ≡ true = le-leb (0 + length t) (length d) (omega arith) in
               record {

@@ -14,7 +14,8 @@ ghost use Rattle.lines.specs.Bytes.{any};
 ghost use Rattle.items.specs.Escapes.{controlLetters, signLetters};
 ghost use Rattle.items.specs.Write.{bareByte, isBare, letterOf, hexDigit, writtenByte, inQuotes, writtenItem, written, endsFit, itemsIn, lastEnd};
 ghost use Rattle.items.specs.Steps.{letterMeans};
-ghost use Rattle.item_writer.specs.Steps.{following, Puts};
+ghost use Rattle.lines.specs.Buffers.{Puts};
+ghost use Rattle.item_writer.specs.Steps.{following};
 ghost use Rattle.item_writer.specs.Answers.{Writes};
 
 pub enum WriteAnswer {

@@ -3,6 +3,7 @@ pub mod Bools
 pub mod Comparison
 pub mod ByteClasses
 pub mod Buffers
+pub mod Putting
 pub mod Stores
 pub mod Slices
 pub mod Trimming

@@ -25,4 +25,5 @@ pub use file::check_file;
 pub use joiner::Cursor;
 pub use joiner::Next;
 pub use joiner::next_line;
+pub use physical::is_continued;
 pub use utf8::well_formed_length;

@@ -1,7 +1,7 @@
 -- `put_byte` puts one of the three forms of a byte.
 use mathlib.Core.Path.{sym, _∙_}
 use native.Mathlib.Omega.{arith}
-use Rattle.item_writer.proofs.Putting.{puts-byte, puts-copied}
+use Rattle.lines.proofs.Putting.{puts-byte, puts-copied}
 use Rattle.item_writer.proofs.Forms.{as-letter, as-itself, as-digits}
 use borrow.Author.Needs.{needs}
 use Rattle.item_writer.proofs.writer.put_byte.Statement.{statement}

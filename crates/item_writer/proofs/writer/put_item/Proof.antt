@@ -3,7 +3,7 @@ use mathlib.Core.Path.{_≡_, sym, _∙_}
 use native.Mathlib.Omega.{arith}
 use lib.ListN.{length, length-set}
 use denote.Ref.{now}
-use Rattle.item_writer.proofs.Putting.{puts-copied}
+use Rattle.lines.proofs.Putting.{puts-copied}
 use Rattle.item_writer.proofs.Written.{item-bare, quoted-most}
 use Rattle.item_writer.proofs.Items.{puts-quotes}
 use borrow.Author.Needs.{needs}
