@@ -1,9 +1,10 @@
 -- The laws that specs/Laws.antt states, each by the module that proves it.
-use Rattle.table.specs.Laws.{EmptyLine, HeaderMade, HeaderIsMade, EntryMade, EntryIsMade, TableFits, RecordsSized, NamesApart, EntriesInside, NamesLegal, EntriesLegal, NumbersDecideNothing, ReadDecided}
+use Rattle.table.specs.Laws.{EmptyLine, HeaderMade, HeaderIsMade, EntryMade, EntryIsMade, TableFits, RecordsSized, NamesApart, EntriesInside, NamesLegal, EntriesLegal, RefusalNumbers, NumbersDecideNothing, ReadDecided}
 use Rattle.table.proofs.KindLaws.{empty-line, header-made, header-is-made, entry-made, entry-is-made}
 use Rattle.table.proofs.Events.{sections-length, entries-length}
 use Rattle.table.proofs.Sizes.{table-fits}
 use Rattle.table.proofs.TableLaws.{names-apart, entries-inside, names-legal, entries-legal, numbers-decide-nothing}
+use Rattle.table.proofs.Refusals.{refusal-numbers}
 use Rattle.table.proofs.ReadCalls.{enough-space}
 
 pub only-nothing-is-empty : EmptyLine
@@ -38,6 +39,9 @@ names-are-legal = names-legal
 
 pub entries-are-legal : EntriesLegal
 entries-are-legal = entries-legal
+
+pub refusals-are-numbered : RefusalNumbers
+refusals-are-numbered = refusal-numbers
 
 pub line-numbers-decide-nothing : NumbersDecideNothing
 line-numbers-decide-nothing = numbers-decide-nothing

@@ -8,6 +8,7 @@ pub mod KindLaws
 pub mod Outcomes
 pub mod Sizes
 pub mod TableLaws
+pub mod Refusals
 -- the code: one line more
 pub mod Scans
 pub mod Search

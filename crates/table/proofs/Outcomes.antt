@@ -41,8 +41,8 @@ holds-imp P Q f (refused n p) h = tt
 
 -- P holds after each way in which a line is accepted: it is empty, a header seen before, a new one, or an entry
 pub record Kept (P : Table → Type 0) (t : Table) (l : Bytes) : Type 0 where
-  pub same : P t
-  pub again : (x : Bytes) (i : ℕ) → indexOf x (names (t .events)) ≡ some i
+  pub same : l ≡ [] → P t
+  pub again : (x : Bytes) (i : ℕ) → HeaderParts l x → indexOf x (names (t .events)) ≡ some i
       → P (record { events = t .events; current = some i })
   pub named : (x : Bytes) → HeaderParts l x → indexOf x (names (t .events)) ≡ none → length (names (t .events)) < 64
       → P (with t (newSection x) (length (names (t .events))))
@@ -52,7 +52,7 @@ pub record Kept (P : Table → Type 0) (t : Table) (l : Bytes) : Type 0 where
 module _ (P : Table → Type 0) (t : Table) (l : Bytes) (kept : Kept P t l) where
   opened-keeps : (n : ℕ) (x : Bytes) → HeaderParts l x → (o : Option ℕ) → indexOf x (names (t .events)) ≡ o → Holds P (opened n t x o)
   unfolding opened
-  opened-keeps n x f (some i) e = kept .again x i e
+  opened-keeps n x f (some i) e = kept .again x i f e
   opened-keeps n x f none e =
       by-cases (ltb (length (names (t .events))) 64)
       (λ h. rw h (kept .named x f e (ltb-true (length (names (t .events))) 64 h)))
@@ -68,7 +68,7 @@ module _ (P : Table → Type 0) (t : Table) (l : Bytes) (kept : Kept P t l) wher
 
   pub act-keeps : (n : ℕ) (o : Kind) → KindFacts l o → Holds P (act n t o)
   unfolding act
-  act-keeps n empty f = kept .same
+  act-keeps n empty f = kept .same f
   act-keeps n (header x) f = opened-keeps n x f (indexOf x (names (t .events))) refl
   act-keeps n (entry k v) f = added-keeps n k v f (t .current) refl
   act-keeps n (fault c) f = tt

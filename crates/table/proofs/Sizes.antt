@@ -29,8 +29,8 @@ sized-more n m t h s = record { text = omega (arith, s .text); few-sections = s 
 module _ (n : ℕ) (t : Table) (s : Sized n t) (l : Bytes) where
   step-kept : Kept (Sized (n + length l)) t (trimmed l)
   step-kept = record {
-    same = sized-more n (n + length l) t (omega arith) s;
-    again = λ x i e. record { text = omega (arith, s .text); few-sections = s .few-sections; few-entries = s .few-entries };
+    same = λ z. sized-more n (n + length l) t (omega arith) s;
+    again = λ x i h e. record { text = omega (arith, s .text); few-sections = s .few-sections; few-entries = s .few-entries };
     named = λ x h e few. record {
       text = omega (arith, s .text, text-length (t .events) (newSection x), header-length (trimmed l) x h, length-trim l);
       few-sections = omega (arith, ap length (names-section (t .events) x), length-append (names (t .events)) (x ∷ []));

@@ -101,10 +101,10 @@ module _ (t : Table) (f : Formed t) (l : Bytes) where
   abbrev count : ℕ
   count = length (names (t .events))
 
-  step-kept : Kept Formed t (trimmed l)
+  pub step-kept : Kept Formed t (trimmed l)
   step-kept = record {
-    same = f;
-    again = λ x i e. record {
+    same = λ z. f;
+    again = λ x i h e. record {
       apart = f .apart;
       good-names = f .good-names;
       inside = f .inside;

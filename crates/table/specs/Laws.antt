@@ -9,7 +9,7 @@ use Rattle.lines.specs.Bytes.{Bytes, keyByte, headerByte, blank, all}
 use Rattle.lines.specs.Trim.{trimStart, trimEnd}
 use Rattle.lines.specs.Lines.{Line}
 use Rattle.lines.specs.Files.{size}
-use Rattle.lines.specs.Answers.{accepted}
+use Rattle.lines.specs.Answers.{accepted, refused}
 use Rattle.lines.specs.Laws.{All, bytesOf}
 use Rattle.table.specs.LineKinds.{empty, header, entry, oneOrMore, kind}
 use Rattle.table.specs.Tables.{Entry, Event, Table, names, entries, indexOf, run, verdict}
@@ -93,6 +93,10 @@ pub record EntryLegal (e : Entry) : Type 0 where
 -- this holds of each entry
 abbrev pub EntriesLegal : Type 0
 EntriesLegal = (f : Bytes) (t : Table) → verdict f ≡ accepted t → All EntryLegal (entries (t .events))
+
+-- a file is refused with 2 to 10 only
+abbrev pub RefusalNumbers : Type 0
+RefusalNumbers = (f : Bytes) (n p : ℕ) → verdict f ≡ refused n p → (2 ≤ n) × (n ≤ 10)
 
 -- ---- line numbers and offsets do not decide what is accepted
 
