@@ -25,6 +25,7 @@ use Rattle.item_writer.specs.declared.writer.WriteAnswer.the-variants.{Accepted
 use Rattle.claims.specs.RoundTrip.{Lent, WriteAccepts, Back, SplitComesBack, tripIn, tripCounts, bytesBack, endsBack, Trip}
 use Rattle.claims.specs.Steps.{ErrorOf}
 use Rattle.claims.proofs.ListBack.{accepted-lent, text-splits, length-back, list-again}
+use Rattle.lines.proofs.Outcomes.{not-accepted, same-refusal}
 
 -- ---- from what the calls promise
 
@@ -96,18 +97,14 @@ module _ (bytes : Bytes) (ends : List ℕ) (out b : Bytes) (e : List ℕ) where
 
       -- what the write call answers is what its definition says
       told : (n p : ℕ) → measured (writeIn (length out) bytes ends) ≡ refused n p → writeIn (length out) bytes ends ≡ refused n p
-      told n p h = go (writeIn (length out) bytes ends) h
-        where
-          go : (o : Outcome Bytes) → measured o ≡ refused n p → o ≡ refused n p
-          go (accepted t) q = let z : _≡_ {A = ℕ} 0 1 = cc q in absurd (omega arith)
-          go (refused m i) q = cc q
+      told n p h = same-refusal measured (λ t. (length t, refl)) (λ m q. refl) (writeIn (length out) bytes ends) n p h
 
       written-text : (n : ℕ) → measured (writeIn (length out) bytes ends) ≡ accepted n → (t : Bytes) × (writeIn (length out) bytes ends ≡ accepted t) × (n ≡ length t)
       written-text n h = go (writeIn (length out) bytes ends) h
         where
           go : (o : Outcome Bytes) → measured o ≡ accepted n → (t : Bytes) × (o ≡ accepted t) × (n ≡ length t)
           go (accepted t) q = (t, refl, sym (cc q))
-          go (refused m i) q = let z : _≡_ {A = ℕ} 0 1 = cc q in absurd (omega arith)
+          go (refused m i) q = not-accepted m i n q
 
       -- the text lies in the buffer
       pub text-inside : (n : ℕ) → w ≡ WriteAccepted n → n ≤ length out'

@@ -11,9 +11,10 @@ use Rattle.table.specs.Contents.{textOf, recordsFrom}
 use Rattle.table.specs.Answers.{Counts, readMeans, counted, textAfter, sectionsAfter, entriesAfter, readIn}
 use Rattle.table.specs.declared.reader.ReadAnswer.{ReadAnswer}
 use Rattle.table.proofs.Laws.{enough-space-decides}
-use Rattle.claims.specs.ExcludedReads.{Call, ReadsNothing, twoSections, ReadsTwo, NoOneAnswer, CountsOfTable, RefusalOfFile}
+use Rattle.claims.specs.ReadCalls.{ReadCall}
+use Rattle.claims.specs.ExcludedReads.{ReadsNothing, twoSections, ReadsTwo, NoOneAnswer, CountsOfTable, RefusalOfFile}
 
-module _ (f : Bytes) (r : ReadAnswer) (c : Call f r) where
+module _ (f : Bytes) (r : ReadAnswer) (c : ReadCall f r) where
   decided : readIn (length (c .text)) (length (c .sections)) (length (c .entries)) f ≡ verdict f
   decided = enough-space-decides _ _ _ f (c .text-size) (c .sections-size) (c .entries-size)
 
@@ -24,7 +25,14 @@ pub counts-of-table : CountsOfTable
 counts-of-table f t r e c = answered f r c _ e
 
 pub refusal-of-file : RefusalOfFile
-refusal-of-file f n p r e c = answered f r c _ e
+refusal-of-file f n p r e c =
+    let o = decided f r c ∙ e in
+    record {
+      answer = answered f r c _ e;
+      text-kept = c .promise .text-after ∙ ap (λ (x : Outcome Table). textAfter x (c .text)) o;
+      sections-kept = c .promise .sections-after ∙ ap (λ (x : Outcome Table). sectionsAfter x (c .sections)) o;
+      entries-kept = c .promise .entries-after ∙ ap (λ (x : Outcome Table). entriesAfter x (c .entries)) o;
+    }
 
 pub reads-nothing : ReadsNothing
 unfolding verdict textOf names entries

@@ -34,7 +34,8 @@ use Rattle.claims.specs.LookUps.{AcceptedRead, lentAfter, indexInTable, 
 use Rattle.claims.specs.Steps.{lookUpLent, Asks}
 use Rattle.claims.specs.declared.look_up.LookUpAnswer.{LookUpAnswer}
 use Rattle.claims.specs.declared.look_up.LookUpAnswer.the-variants.{Found, NotRead, NotFound}
-use Rattle.claims.proofs.LookedUp.{not-accepted, table-there, index-is, value-is}
+use Rattle.claims.proofs.LookedUp.{table-there, index-is, value-is}
+use Rattle.lines.proofs.Outcomes.{not-accepted, same-refusal}
 
 -- ---- what an answer and a buffer say of an outcome
 
@@ -98,12 +99,8 @@ module _ (f : Bytes) (w : Which) (x k : Bytes) (out : Bytes) where
     gets-refused a b c e q =
         let d = enough-space-decides (length text) (length sections) (length entries) f a b c in
         let v : counted (verdict f) ≡ errorMeans e = ap counted (sym d) ∙ sym (p .answer) ∙ ap readMeans q in
-        let o : verdict f ≡ errorMeans e = same-refusal (verdict f) v in
+        let o : verdict f ≡ errorMeans e = same-refusal counted (λ t. (countsOf t, refl)) (λ n p. refl) (verdict f) (numberOf e) (placeOf e) v in
         gets (errorMeans e) (rw (le-ltb (length out) 65535 h, o)) (NotRead e) out refl refl
-      where
-        same-refusal : (o : Outcome Table) → counted o ≡ errorMeans e → o ≡ errorMeans e
-        same-refusal (accepted t) z = not-accepted (numberOf e) (placeOf e) (countsOf t) (sym z)
-        same-refusal (refused n m) z = let y : n ≡ numberOf e = cc z in let i : m ≡ placeOf e = cc z in rw (y, i)
 
     -- the file has a table
     pub gets-asked : (n m j : ℕ) → r ≡ ReadAccepted n m j → (s : LookUpAnswer) (out' : Bytes)

@@ -1,6 +1,6 @@
 -- After an accepted read the buffers decode to the file's table; so the questions to them are questions to the table.
 use mathlib.Core.Path.{_≡_, refl, sym, ap, _∙_}
-use Prim.Native.Nat.{ℕ, _-_}
+use Prim.Native.Nat.{ℕ}
 use mathlib.Core.Bool.{_||_}
 use mathlib.Core.Option.{Option, none, some}
 use lib.ListN.{length}
@@ -19,15 +19,9 @@ use Rattle.lookup.specs.declared.search.Which.the-variants.{First, Last}
 use Rattle.lookup.proofs.Laws.{first-is-first, last-is-last, none-is-none, parts-are-values, tables-decode}
 use Rattle.lookup.proofs.Meanings.{value-stands, some-found}
 use Rattle.claims.specs.LookUps.{indexInTable, valueInTable, AcceptedRead, lentAfter, FindAfterRead, ValueAfterRead, IsAsked, EntryAfterRead, MissingAfterRead, PartFor, CheckAfterRead}
+use Rattle.lines.proofs.Outcomes.{accepted-is, not-accepted}
 
 -- ---- the table that was read
-
--- what an outcome that was accepted says
-accepted-is : {A : Type 0} (x y : A) → accepted x ≡ accepted y → x ≡ y
-accepted-is x y e = cc e
-
-pub not-accepted : {A : Type 0} {X : Type 0} (n p : ℕ) (x : A) → refused n p ≡ accepted x → X
-not-accepted n p x e = let z : _≡_ {A = ℕ} 0 1 = cc e in clash z
 
 module _ (f : Bytes) (c : AcceptedRead f) where
   -- the verdict on the call

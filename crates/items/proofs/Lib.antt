@@ -16,8 +16,8 @@ pub mod WrittenBack
 pub mod LaidOut
 -- the verdicts on calls
 pub mod Verdicts
--- the bench cases, and the readings
-pub mod Bench
+-- the readings
+pub mod Readings
 -- the code: escapes, the pieces of an item, an item, a step, all items, a call
 pub mod Digits
 pub mod EscapeSteps

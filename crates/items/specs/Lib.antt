@@ -5,8 +5,7 @@ pub mod Split
 pub mod Write
 -- what the public functions answer
 pub mod Answers
--- the bench cases, and the readings
-pub mod Bench
+-- readings of the rules, as cases
 pub mod Readings
 -- what is known of the definitions
 pub mod Grammar

@@ -1,5 +1,6 @@
 -- Laws about the definitions of specs/, for the proofs of this crate and of those above it.
 pub mod Bools
+pub mod Outcomes
 pub mod Comparison
 pub mod ByteClasses
 pub mod Buffers

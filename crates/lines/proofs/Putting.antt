@@ -1,5 +1,5 @@
 -- Laws of `Puts`: nothing, one byte, a copied part, and one part behind another.
-use mathlib.Core.Path.{_≡_, refl, sym, _∙_}
+use mathlib.Core.Path.{_≡_, refl, sym, ap, _∙_}
 use Prim.Native.Nat.{ℕ, _+_, _≤_, _<_}
 use native.Mathlib.Nat.{add-zero}
 use native.Mathlib.Numerals.{add-one}
@@ -11,7 +11,7 @@ use lib.Seq.{set-split}
 use lib.Dec.{leb}
 use Rattle.lines.specs.Bytes.{Bytes}
 use Rattle.lines.specs.Buffers.{put, Puts}
-use Rattle.lines.proofs.Buffers.{put-nil, put-put, copied}
+use Rattle.lines.proofs.Buffers.{put-nil, length-put, put-put, copied}
 
 pub puts-nothing : (d : Bytes) (at : ℕ) → Puts d at [] at d
 puts-nothing d at = record { behind = sym (add-zero at); after = sym (put-nil d at) }
@@ -31,3 +31,13 @@ puts-then {d} {at} {xs} {ys} h p q =
       behind = omega (arith, p .behind, q .behind, length-append xs ys);
       after = q .after ∙ rw (p .after, p .behind) (put-put d at xs ys (omega arith));
     }
+
+-- the buffer is as long as before
+pub puts-length : {d : Bytes} {at : ℕ} {xs : Bytes} {m : ℕ} {d' : Bytes} → at + length xs ≤ length d → Puts d at xs m d' → length d' ≡ length d
+puts-length {d} {at} {xs} h p = ap length (p .after) ∙ length-put d at xs h
+
+-- one byte more, at the index behind
+pub puts-snoc : {d : Bytes} {at : ℕ} {xs : Bytes} {m : ℕ} {d' : Bytes} (b i : ℕ) → i ≡ m → at + length xs < length d
+    → Puts d at xs m d' → Puts d at (xs ++ b ∷ []) (i + 1) (set d' i b)
+puts-snoc {d} {at} {xs} {m} {d'} b i e h p =
+    rw e (puts-then (omega arith) p (puts-byte d' m b (omega (arith, p .behind, puts-length (omega arith) p))))

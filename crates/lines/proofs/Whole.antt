@@ -1,13 +1,19 @@
 -- A line with no LF, no comment start and no odd closing run is read back as itself.
-use mathlib.Core.Path.{_≡_, ap, _∙_}
+use mathlib.Core.Path.{_≡_, refl, sym, ap, _∙_}
 use Prim.Native.Nat.{ℕ, suc, _+_}
-use mathlib.Core.List.{List, [], _∷_, _++_}
+use mathlib.Core.List.{List, [], _∷_, _++_, append-assoc}
 use lib.ListN.{length}
 use Rattle.lines.specs.Laws.{All, Whole, bytesOf}
 use Rattle.lines.specs.Bytes.{Bytes}
 use Rattle.lines.specs.Lines.{physical, joined, logical, written}
 use Rattle.lines.proofs.Physicals.{shutLine, physical-cons}
 use Rattle.lines.proofs.Joining.{joined-nil, joined-line}
+
+-- lines behind lines
+pub written-append : (a b : List Bytes) → written (a ++ b) ≡ written a ++ written b
+unfolding written
+written-append [] b = refl
+written-append (l ∷ a) b = rw (written-append a b) (sym (append-assoc l (0x0A ∷ written a) (written b)))
 
 -- in front of any file
 pub whole-cons : (l rest : Bytes) (n a : ℕ) → Whole l

@@ -19,6 +19,5 @@ pub mod TakingLines
 pub mod ReadingLines
 pub mod ReadingAll
 pub mod ReadCalls
--- what specs/Laws.antt and specs/Bench.antt state
+-- what specs/Laws.antt states
 pub mod Laws
-pub mod Bench

@@ -19,5 +19,3 @@ pub mod Forms
 pub mod Spelling
 pub mod Reading
 pub mod Laws
--- the bench cases
-pub mod Bench

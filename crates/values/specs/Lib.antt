@@ -3,8 +3,6 @@ pub mod Booleans
 pub mod Spans
 -- what the public functions answer
 pub mod Answers
--- the bench cases
-pub mod Bench
 -- what is known of the definitions
 pub mod Laws
 -- cited by no public promise

@@ -1,13 +1,8 @@
--- The bench cases of items, and the readings: the definitions compute to what the rules say.
+-- The readings of the rules: the definitions compute to what the cases say.
 use mathlib.Core.Path.{refl}
-use Rattle.items.specs.Bench.{SplitBench}
 use Rattle.items.specs.Readings.{ReadingsHold}
 use Rattle.items.specs.Split.{splitOf}
 use Rattle.items.specs.Write.{writeIn}
-
-pub split-bench : SplitBench
-unfolding splitOf
-split-bench = (refl, (refl, (refl, (refl, (refl, (refl, tt))))))
 
 pub readings-hold : ReadingsHold
 unfolding splitOf writeIn
