@@ -1,6 +1,7 @@
 #!/usr/bin/env python3
 """Writes what the programs are to print: those on lines from here, those on values from expected_values.py, those on
-items from expected_items.py, those on tables from expected_table.py, those on look-up from expected_lookup.py.
+items from expected_items.py, those on tables from expected_table.py, those on look-up from expected_lookup.py, those on
+the normal text from expected_normal.py.
 
 usage: expected.py [--check]      (--check: only compare with the files that stand)
 
@@ -14,6 +15,7 @@ import sys
 sys.dont_write_bytecode = True  # leaves no __pycache__ in the repository
 import expected_items
 import expected_lookup
+import expected_normal
 import expected_table
 import expected_values
 from rules_lines import EXAMPLE, logical_lines, refusal
@@ -301,6 +303,7 @@ def main():
         **expected_items.outputs(),
         **expected_table.outputs(),
         **expected_lookup.outputs(),
+        **expected_normal.outputs(),
     }
     assert outputs['logical/stdout'] == HAND_EXAMPLE
     assert not HAND_FILES and not HAND_TEXTS and not HAND_CALLS

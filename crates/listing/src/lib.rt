@@ -3,6 +3,7 @@
 mod cases;
 pub mod notation;
 pub mod show;
+pub mod tables;
 mod texts;
 
 pub use cases::case;

@@ -1,9 +1,9 @@
 // A file is read.
-use crate::buffers;
 use listing::notation;
 use listing::print;
 use listing::print_refused;
 use listing::show;
+use listing::tables;
 use table::ReadAnswer;
 
 // The longest buffers.
@@ -69,14 +69,12 @@ fn read_into(file: &[u8], text: &mut [u8], sections: &mut [usize], entries: &mut
             sections: s,
             entries: e,
         } => {
-            buffers::print_counts(t, s, e);
-            buffers::print_text(text, t);
-            buffers::print_numbers(b"  sections ", sections, 2 * buffers::at_most(s));
-            buffers::print_numbers(b"  entries ", entries, 5 * buffers::at_most(e));
+            tables::print_counts(t, s, e);
+            tables::print_table(text, t, sections, s, entries, e);
         }
         ReadAnswer::Refused(e) => {
             print(b"all ");
-            show::print_kept(buffers::all_kept(text, sections, entries));
+            show::print_kept(tables::all_kept(text, sections, entries));
             print_refused(e.number(), e.place());
         }
     }
