@@ -97,12 +97,12 @@ pub decided : (f : Bytes) (c : Call f) → outcomeOf (c .made) ≡ verdict f
 decided f c = enough-space-decides _ _ _ _ f (c .text-size) (c .sections-size) (c .entries-size) (c .out-size)
 
 pub call-is-not-one : CallIsNotOne
-call-is-not-one f c h = go (verdict f) refl
+call-is-not-one f c q h = go (verdict f) refl
   where
     go : (o : Outcome Table) → verdict f ≡ o → ⊥
-    go (accepted t) e = not-accepted 1 0 (sizesOf t) (sym h ∙ c .made .promise .answer ∙ ap sized (decided f c ∙ e))
+    go (accepted t) e = not-accepted 1 q (sizesOf t) (sym h ∙ c .made .promise .answer ∙ ap sized (decided f c ∙ e))
     go (refused n p) e =
-        let z : _≡_ {A = Outcome Sizes} (refused 1 0) (refused n p) = sym h ∙ c .made .promise .answer ∙ ap sized (decided f c ∙ e) in
+        let z : _≡_ {A = Outcome Sizes} (refused 1 q) (refused n p) = sym h ∙ c .made .promise .answer ∙ ap sized (decided f c ∙ e) in
         let y : 1 ≡ n = cc z in
         absurd (omega (arith, y, refusals-are-numbered f n p e .0))
 
@@ -130,7 +130,7 @@ left-is-accepted f ss e c = ap sectionsIn (accepted-leaves f ss e c .text-left) 
 pub left-is-read : LeftIsRead
 left-is-read f ss e c r d =
     let t = table-of-sections (leftBy c) ss (left-is-accepted f ss e c) in
-    (t .0, counts-of-table (leftBy c) (t .0) r (t .1) d, t .2)
+    (t .0, t .1, counts-of-table (leftBy c) (t .0) r (t .1) d, t .2)
 
 pub left-is-its-own : LeftIsItsOwn
 left-is-its-own f ss e c d =

@@ -9,7 +9,7 @@ use lib.ListN.{length, take}
 use Rattle.lines.specs.Bytes.{Bytes}
 use Rattle.lines.specs.Files.{size}
 use Rattle.lines.specs.Answers.{Outcome, accepted, refused}
-use Rattle.table.specs.Tables.{Table}
+use Rattle.table.specs.Tables.{Table, verdict}
 use Rattle.table.specs.Answers.{Counts, countsOf, readMeans}
 use Rattle.table.specs.declared.reader.ReadAnswer.{ReadAnswer}
 use Rattle.normal_text.specs.Sections.{Pair, Section, sectionsOf, sectionsIn}
@@ -81,10 +81,11 @@ SameText = (f : Bytes) (ss : List (Section Pair)) → sectionsIn f ≡ accepted 
 abbrev pub LeftIsAccepted : Type 0
 LeftIsAccepted = (f : Bytes) (ss : List (Section Pair)) → sectionsIn f ≡ accepted ss → (c : Call f) → sectionsIn (leftBy c) ≡ accepted ss
 
--- so a call of `read` on it, whose buffers are not too short, is accepted, with a table of these sections
+-- so a call of `read` on it, whose buffers are not too short, is accepted with the counts of its table, which has these
+-- sections
 abbrev pub LeftIsRead : Type 0
 LeftIsRead = (f : Bytes) (ss : List (Section Pair)) → sectionsIn f ≡ accepted ss → (c : Call f)
-    → (r : ReadAnswer) → ReadCall (leftBy c) r → (t : Table) × (readMeans r ≡ accepted (countsOf t)) × (sectionsOf t ≡ ss)
+    → (r : ReadAnswer) → ReadCall (leftBy c) r → (t : Table) × (verdict (leftBy c) ≡ accepted t) × (readMeans r ≡ accepted (countsOf t)) × (sectionsOf t ≡ ss)
 
 -- every call on that text is accepted, and leaves that text itself: the same length, and the same bytes
 abbrev pub LeftIsItsOwn : Type 0
@@ -129,4 +130,4 @@ NotOneIsCall = (f : Bytes) (c : AnyCall f) → (normalMeans (c .answer) ≡ refu
 
 -- and such a call is not refused with 1, whatever the file
 abbrev pub CallIsNotOne : Type 0
-CallIsNotOne = (f : Bytes) (c : Call f) → normalMeans (c .made .answer) ≡ refused 1 0 → ⊥
+CallIsNotOne = (f : Bytes) (c : Call f) (p : ℕ) → normalMeans (c .made .answer) ≡ refused 1 p → ⊥

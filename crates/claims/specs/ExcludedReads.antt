@@ -46,6 +46,6 @@ pub record RefusedRead (n p : ℕ) {f : Bytes} {r : ReadAnswer} (c : ReadCall f 
   pub sections-kept : c .sections-after ≡ c .sections
   pub entries-kept : c .entries-after ≡ c .entries
 
--- a file that is refused is not accepted, the refusal is its own, and nothing was filled before a late line was refused
+-- a file that is refused is not accepted, the refusal is its own, and the buffers are as they were, however late its line
 abbrev pub RefusalOfFile : Type 0
 RefusalOfFile = (f : Bytes) (n p : ℕ) (r : ReadAnswer) → verdict f ≡ refused n p → (c : ReadCall f r) → RefusedRead n p c

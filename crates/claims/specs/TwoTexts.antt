@@ -50,7 +50,8 @@ abbrev pub filledWith : Outcome Bytes → Bytes → Bytes
 filledWith (accepted t) d = filled t d
 filledWith (refused n p) d = d
 
--- The promise of `normal_twice`: both buffers receive the normal text of the file, with the same length and the same bytes.
+-- The promise of `normal_twice`: both buffers receive the normal text of an accepted file, with the same length and the same
+-- bytes; else it is the refusal, and both are as they were.
 -- That the second is what a call on the first text leaves is how it is made; that every such call is accepted and leaves
 -- that text is `LeftIsItsOwn` of Demand3.
 pub record Twice (f out again : Bytes) (r : TwiceAnswer) (out' again' : Bytes) : Type 0 where
