@@ -43,7 +43,8 @@ slice-read-nexts : tie.Need-slice-read-nexts Inv-loop μ-loop
 slice-read-nexts c = let t = c .before .before in
     let l = t .before in
     let s = l .before in
-    section-inside (now (s .args .entries)) (s .args .count) _ _ (l .loop .i) (l .loop .firsts) (l .loop .nexts) (l .loop .inv) (t .loop-test .taken) (s .pre .3) (s .pre .1)
+    let h = section-inside (now (s .args .entries)) (s .args .count) _ _ (l .loop .i) (l .loop .firsts) (l .loop .nexts) (l .loop .inv) (t .loop-test .taken) (s .pre .3) (s .pre .1) in
+    omega (arith, h, t .loop-test .taken, s .pre .1, l .loop .inv .left, l .loop .inv .next-count)
 
 mul-nexts-2 : tie.Need-mul-nexts-2 Inv-loop μ-loop
 mul-nexts-2 c = search needs
