@@ -1,4 +1,5 @@
 -- `havtsulen_check_file`: a short report, or what the function below it has answered.
+use native.Mathlib.Omega.{arith}
 use denote.Ref.{now}
 use Rattle.havtsulen.proofs.FileCalls.{check-short, check-accepted, check-refused}
 use borrow.Author.Needs.{needs}
@@ -7,7 +8,7 @@ use Rattle.havtsulen.proofs.files.havtsulen_check_file.Tie as tie
 
 returns : tie.Need-returns
 returns c = let a = c .before .before .before .args in
-    check-short (now (a .file)) (now (a .report)) (c .if1 .taken)
+    check-short (now (a .file)) (now (a .report)) (omega (arith, c .if1 .taken))
 
 check-file-requires : tie.Need-check-file-requires
 check-file-requires c κs = search needs

@@ -1,4 +1,5 @@
 -- `havtsulen_normal_text`: a short report, or what the function below it has answered.
+use native.Mathlib.Omega.{arith}
 use denote.Ref.{now}
 use Rattle.havtsulen.proofs.FileCalls.{normal-short, normal-accepted, normal-refused}
 use borrow.Author.Needs.{needs}
@@ -7,7 +8,7 @@ use Rattle.havtsulen.proofs.files.havtsulen_normal_text.Tie as tie
 
 returns : tie.Need-returns
 returns c = let a = c .before .before .before .before .before .before .before .args in
-    normal-short (now (a .file)) (now (a .text)) (now (a .sections)) (now (a .entries)) (now (a .out)) (now (a .report)) (c .if1 .taken)
+    normal-short (now (a .file)) (now (a .text)) (now (a .sections)) (now (a .entries)) (now (a .out)) (now (a .report)) (omega (arith, c .if1 .taken))
 
 normal-text-requires : tie.Need-normal-text-requires
 normal-text-requires c κs = search needs

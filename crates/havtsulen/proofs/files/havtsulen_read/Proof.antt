@@ -1,4 +1,5 @@
 -- `havtsulen_read`: a short report, or what the function below it has answered.
+use native.Mathlib.Omega.{arith}
 use denote.Ref.{now}
 use Rattle.havtsulen.proofs.FileCalls.{read-short, read-accepted, read-refused}
 use borrow.Author.Needs.{needs}
@@ -7,7 +8,7 @@ use Rattle.havtsulen.proofs.files.havtsulen_read.Tie as tie
 
 returns : tie.Need-returns
 returns c = let a = c .before .before .before .before .before .before .args in
-    read-short (now (a .file)) (now (a .text)) (now (a .sections)) (now (a .entries)) (now (a .report)) (c .if1 .taken)
+    read-short (now (a .file)) (now (a .text)) (now (a .sections)) (now (a .entries)) (now (a .report)) (omega (arith, c .if1 .taken))
 
 read-requires : tie.Need-read-requires
 read-requires c κs = search needs

@@ -1,4 +1,5 @@
 -- `havtsulen_well_formed_length`: a short report, or what the function below it has answered.
+use native.Mathlib.Omega.{arith}
 use denote.Ref.{now}
 use Rattle.havtsulen.proofs.FileCalls.{length-short, length-told}
 use borrow.Author.Needs.{needs}
@@ -7,7 +8,7 @@ use Rattle.havtsulen.proofs.files.havtsulen_well_formed_length.Tie as t
 
 returns : tie.Need-returns
 returns c = let a = c .before .before .before .args in
-    length-short (now (a .text)) (now (a .report)) (c .if1 .taken)
+    length-short (now (a .text)) (now (a .report)) (omega (arith, c .if1 .taken))
 
 well-formed-length-requires : tie.Need-well-formed-length-requires
 well-formed-length-requires c κs = search needs

@@ -1,4 +1,5 @@
 -- `havtsulen_split`: a short report, or what the function below it has answered.
+use native.Mathlib.Omega.{arith}
 use denote.Ref.{now}
 use Rattle.havtsulen.proofs.ListCalls.{split-short, split-accepted, split-refused}
 use borrow.Author.Needs.{needs}
@@ -7,7 +8,7 @@ use Rattle.havtsulen.proofs.item_lists.havtsulen_split.Tie as tie
 
 returns : tie.Need-returns
 returns c = let a = c .before .before .before .before .before .args in
-    split-short (now (a .text)) (now (a .bytes)) (now (a .ends)) (now (a .report)) (c .if1 .taken)
+    split-short (now (a .text)) (now (a .bytes)) (now (a .ends)) (now (a .report)) (omega (arith, c .if1 .taken))
 
 split-requires : tie.Need-split-requires
 split-requires c κs = search needs

@@ -1,4 +1,5 @@
 -- `havtsulen_write`: a short report, or what the function below it has answered.
+use native.Mathlib.Omega.{arith}
 use denote.Ref.{now}
 use Rattle.havtsulen.proofs.ListCalls.{write-short, write-accepted, write-refused}
 use borrow.Author.Needs.{needs}
@@ -7,7 +8,7 @@ use Rattle.havtsulen.proofs.item_lists.havtsulen_write.Tie as tie
 
 returns : tie.Need-returns
 returns c = let a = c .before .before .before .before .before .args in
-    write-short (now (a .bytes)) (now (a .ends)) (now (a .out)) (now (a .report)) (c .if1 .taken)
+    write-short (now (a .bytes)) (now (a .ends)) (now (a .out)) (now (a .report)) (omega (arith, c .if1 .taken))
 
 write-requires : tie.Need-write-requires
 write-requires c κs = search needs

@@ -1,4 +1,5 @@
 -- `havtsulen_find`: a short report, or what the function below it has answered.
+use native.Mathlib.Omega.{arith}
 use denote.Ref.{now}
 use Rattle.lookup.specs.Decoding.{lent}
 use Rattle.havtsulen.proofs.QuestionCalls.{find-short, find-accepted, find-refused}
@@ -8,7 +9,7 @@ use Rattle.havtsulen.proofs.questions.havtsulen_find.Tie as tie
 
 returns : tie.Need-returns
 returns c = let a = c .before .before .before .before .before .before .before .args in
-    find-short (lent (now (a .text)) (now (a .sections)) (a .section-count) (now (a .entries)) (a .entry-count)) (a .which) (now (a .section)) (now (a .key)) (now (a .report)) (c .if1 .taken)
+    find-short (lent (now (a .text)) (now (a .sections)) (a .section-count) (now (a .entries)) (a .entry-count)) (a .which) (now (a .section)) (now (a .key)) (now (a .report)) (omega (arith, c .if1 .taken))
 
 which-of-requires : tie.Need-which-of-requires
 which-of-requires c κs = search needs

@@ -1,4 +1,5 @@
 -- `havtsulen_value_check`: a short report, or what the function below it has answered.
+use native.Mathlib.Omega.{arith}
 use denote.Ref.{now}
 use Rattle.lookup.specs.Decoding.{lent}
 use Rattle.havtsulen.proofs.QuestionCalls.{part-short, part-accepted, part-refused}
@@ -8,7 +9,7 @@ use Rattle.havtsulen.proofs.questions.havtsulen_value_check.Tie as tie
 
 returns : tie.Need-returns
 returns c = let a = c .before .before .before .before .before .args in
-    part-short (lent (now (a .text)) (now (a .sections)) (a .section-count) (now (a .entries)) (a .entry-count)) (a .index) (now (a .report)) (c .if1 .taken)
+    part-short (lent (now (a .text)) (now (a .sections)) (a .section-count) (now (a .entries)) (a .entry-count)) (a .index) (now (a .report)) (omega (arith, c .if1 .taken))
 
 value-check-requires : tie.Need-value-check-requires
 value-check-requires c κs = search needs

@@ -1,4 +1,5 @@
 -- `havtsulen_boolean`: a short report, or what the function below it has answered.
+use native.Mathlib.Omega.{arith}
 use denote.Ref.{now}
 use Rattle.havtsulen.proofs.ValueCalls.{boolean-short, boolean-accepted, boolean-refused}
 use borrow.Author.Needs.{needs}
@@ -7,7 +8,7 @@ use Rattle.havtsulen.proofs.settings.havtsulen_boolean.Tie as tie
 
 returns : tie.Need-returns
 returns c = let a = c .before .before .before .args in
-    boolean-short (now (a .text)) (now (a .report)) (c .if1 .taken)
+    boolean-short (now (a .text)) (now (a .report)) (omega (arith, c .if1 .taken))
 
 boolean-requires : tie.Need-boolean-requires
 boolean-requires c κs = search needs

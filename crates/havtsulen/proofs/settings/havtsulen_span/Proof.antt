@@ -1,4 +1,5 @@
 -- `havtsulen_span`: a short report, or what the function below it has answered.
+use native.Mathlib.Omega.{arith}
 use denote.Ref.{now}
 use Rattle.havtsulen.proofs.ValueCalls.{span-short, span-accepted, span-refused}
 use borrow.Author.Needs.{needs}
@@ -7,7 +8,7 @@ use Rattle.havtsulen.proofs.settings.havtsulen_span.Tie as tie
 
 returns : tie.Need-returns
 returns c = let a = c .before .before .before .args in
-    span-short (now (a .text)) (now (a .report)) (c .if1 .taken)
+    span-short (now (a .text)) (now (a .report)) (omega (arith, c .if1 .taken))
 
 span-requires : tie.Need-span-requires
 span-requires c κs = search needs
