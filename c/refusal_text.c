@@ -6,7 +6,7 @@ const char *havtsulen_refusal_text(size_t number)
     switch (number) {
     case HAVTSULEN_ACCEPTED: return "accepted";
     case HAVTSULEN_SHORT_BUFFER: return "a buffer is shorter than stated";
-    case HAVTSULEN_FILE_TOO_LONG: return "the file is longer than 65,535 bytes";
+    case HAVTSULEN_FILE_TOO_LONG: return "the file is longer than 65,535 bytes, where a missing last line feed counts as one";
     case HAVTSULEN_NOT_UTF8: return "the file is not UTF-8";
     case HAVTSULEN_CONTROL_BYTE: return "a control byte stands in the file";
     case HAVTSULEN_LINE_TOO_LONG: return "a line, with those that continue it, is longer than 4,096 bytes";
@@ -28,7 +28,7 @@ const char *havtsulen_refusal_text(size_t number)
     case HAVTSULEN_SPAN_FORM: return "the text is no time span";
     case HAVTSULEN_SPAN_TOO_LARGE: return "the time span is too large";
     case HAVTSULEN_NO_ENTRY: return "there is no such setting";
-    case HAVTSULEN_FAULTY_RECORD: return "the table is faulty: a record or a count points outside its buffers";
+    case HAVTSULEN_FAULTY_RECORD: return "the table is faulty: a record points outside the text or past the section count, or a count passes its buffer";
     default: return "unknown refusal";
     }
 }

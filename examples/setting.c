@@ -9,6 +9,7 @@
 
 #include <errno.h>
 #include <fcntl.h>
+#include <signal.h>
 #include <stdio.h>
 #include <string.h>
 #include <unistd.h>
@@ -159,6 +160,8 @@ int main(int argc, char **argv)
 {
     static struct work work;
     struct value value;
+    /* A reader of standard output that is gone is told below, as any other failed write. */
+    signal(SIGPIPE, SIG_IGN);
     if (argc != 4) {
         fprintf(stderr, "usage: setting FILE SECTION KEY\n");
         return STATUS_TROUBLE;

@@ -131,7 +131,11 @@ def write_all(data):
 
 
 def tell(words):
-    sys.stderr.buffer.write(words + b'\n')
+    """A line on standard error, if there is one."""
+    try:
+        os.write(2, words + b'\n')
+    except OSError:
+        pass
 
 
 def main(arguments):

@@ -1,7 +1,8 @@
 /*
  * Havtsulen: reads and writes settings files in the syntax of systemd.syntax(7), as the house rules (document 01) fix
- * it. For x86-64 Linux, from C99 or C++11 on. Link with target/staticlib/libhavtsulen.a, and compile c/refusal_text.c
- * with your program where it calls havtsulen_refusal_text. examples/setting.c is a whole program.
+ * it. For x86-64 Linux, from C99 or C++11 on. Link with target/staticlib/libhavtsulen.a, which needs memcpy and memset
+ * and nothing else, and compile c/refusal_text.c with your program where it calls havtsulen_refusal_text.
+ * examples/setting.c is a whole program.
  *
  * Slices
  *   A slice is two arguments: a pointer to its first element, and its length in elements (not in bytes). An element is
@@ -26,9 +27,9 @@
  *     refused:  the place, 0, 0, 0. The place is a line (from 1), an offset in bytes (from 0), or 0, as the enum says.
  *
  * Buffers
- *   A refused call changes no buffer but the report. An accepted one fills the buffers from their start, as far as its
- *   report says, and all else in them stays. Their contents before the call do not count. A buffer may be longer than
- *   the size stated for it; a shorter one is refused with 1.
+ *   Of the buffers that a call writes to: a refused call changes none but the report. An accepted one fills them from
+ *   their start, as far as its report says, and all else in them stays. Their contents before the call do not count. A
+ *   buffer may be longer than the size stated for it; a shorter one is refused with 1.
  *
  * The table of a file
  *   havtsulen_read leaves a table in three buffers: `text` has the names, keys and values, `sections` two numbers for
@@ -39,15 +40,18 @@
  *     value of entry e:           entries[5 * e + 4] bytes at text + entries[5 * e + 3]
  *   No text ends in a NUL byte; only the lengths tell where it ends. A section that comes back in the file is one
  *   section. A key that comes back is another entry. Calls that ask a table take the lengths of the buffers, in
- *   numbers, and beside them the counts, in sections and entries, that havtsulen_read reported.
+ *   elements, and beside them the counts of sections and entries, which havtsulen_read reports as its second and third
+ *   number, and havtsulen_normal_text as its third and fourth.
  *
  * Threads
  *   The library has no state and takes no locks. Any number of threads may call it at once, each with its own buffers
- *   to write to. They may ask one table at once.
+ *   to write to. They may ask one table at once, while no call writes to it.
  *
  * Stack
  *   A call needs at most HAVTSULEN_STACK_BYTES bytes of the stack that it is made on. The library does not check that
- *   they are there. tests/stack.c measures what each call needs.
+ *   they are there. Measured (tests/stack.c): havtsulen_normal_text 97,256, havtsulen_read 92,520, havtsulen_write
+ *   17,288, havtsulen_split 6,496, every other call below 200; and some 3,200 more in the first call of a program that
+ *   binds memcpy and memset lazily.
  */
 #ifndef HAVTSULEN_H
 #define HAVTSULEN_H
@@ -95,11 +99,11 @@ enum havtsulen_refusal {
     /* of a file */
     HAVTSULEN_FILE_TOO_LONG = 2,    /* 0 */
     HAVTSULEN_NOT_UTF8 = 3,         /* line of the first byte after the longest well-formed start */
-    HAVTSULEN_CONTROL_BYTE = 4,     /* line of the first one: 00 to 1F but tab and LF, and 7F */
-    HAVTSULEN_LINE_TOO_LONG = 5,    /* line on which the joined line starts; so for 6 to 10 */
-    HAVTSULEN_BAD_HEADER = 6,       /* line */
+    HAVTSULEN_CONTROL_BYTE = 4,     /* line of the first one: 00 to 1F but tab and LF, and 7F; so CR, and every CR LF */
+    HAVTSULEN_LINE_TOO_LONG = 5,    /* line on which the joined line, of over 4,096 bytes, starts; so for 6 to 10 */
+    HAVTSULEN_BAD_HEADER = 6,       /* line; a name has one or more bytes 20 to 7E, none of them [ or ] */
     HAVTSULEN_NO_EQUALS_SIGN = 7,   /* line */
-    HAVTSULEN_BAD_KEY = 8,          /* line */
+    HAVTSULEN_BAD_KEY = 8,          /* line; a key has one or more of A to Z, a to z, 0 to 9, -, _ and . */
     HAVTSULEN_NO_SECTION = 9,       /* line */
     HAVTSULEN_TOO_MANY = 10,        /* line of the 65th section or of the 513th entry */
     /* of a list of items */
@@ -108,7 +112,7 @@ enum havtsulen_refusal {
     HAVTSULEN_MISPLACED_QUOTE = 22, /* offset of the quote inside the item, or of the byte after the closing quote */
     HAVTSULEN_OPEN_QUOTE = 23,      /* offset of the opening quote */
     HAVTSULEN_ESCAPE_FORM = 24,     /* offset of the backslash */
-    HAVTSULEN_ESCAPE_VALUE = 25,    /* offset of the backslash */
+    HAVTSULEN_ESCAPE_VALUE = 25,    /* offset of the backslash; for 0, above 377 octal, D800 to DFFF, above 10FFFF */
     HAVTSULEN_TOO_MANY_ITEMS = 26,  /* offset of the 257th item; 0 for havtsulen_write */
     HAVTSULEN_NUL_BYTE = 27,        /* 0 */
     HAVTSULEN_BAD_ENDS = 28,        /* 0 */
@@ -151,8 +155,8 @@ size_t havtsulen_check_file(const uint8_t *file, size_t file_length, size_t *rep
  * Out:      text, at least HAVTSULEN_TEXT_BYTES bytes; sections, at least HAVTSULEN_SECTION_NUMBERS numbers; entries,
  *           at least HAVTSULEN_ENTRY_NUMBERS numbers. See "The table of a file" above.
  * Accepted: report = bytes used in text, number of sections (at most 64), number of entries (at most 512), 0.
- * Refused:  1, 2, 3, 4, each judged over the whole file and in this order; then the first faulty line, in it 5 to 10 in
- *           order. report = place, 0, 0, 0, and the three buffers are as they were.
+ * Refused:  1; then 2, 3, 4, each judged over the whole file, in this order; then the first faulty line, in it 5 to 10
+ *           in order. report = place, 0, 0, 0, and the three buffers are as they were.
  */
 size_t havtsulen_read(const uint8_t *file, size_t file_length, uint8_t *text, size_t text_length, size_t *sections,
                       size_t sections_length, size_t *entries, size_t entries_length, size_t *report,
@@ -199,8 +203,8 @@ size_t havtsulen_value_check(size_t index, const uint8_t *text, size_t text_leng
 /*
  * Writes the normal text of a file: each section once, in the order in which they first appear, as [name] and LF, and
  * under it its entries as key=value and LF. A value that ends in an odd run of backslashes gets a space before the LF.
- * Two files have the same normal text exactly when they hold the same sections and, in each, the same entries, in the
- * same order.
+ * Two accepted files have the same normal text exactly when they hold the same sections and, in each, the same entries,
+ * in the same order.
  * In:       file, the whole file, of any length.
  * Out:      text, sections, entries as for havtsulen_read: they then hold the table of the file; out, at least
  *           HAVTSULEN_OUT_BYTES bytes, gets the normal text.
@@ -214,8 +218,8 @@ size_t havtsulen_normal_text(const uint8_t *file, size_t file_length, uint8_t *t
 
 /*
  * Splits a text, such as a value, into items. Blanks (spaces, tabs) stand between items. An item may stand in double
- * or single quotes. Escapes count in and out of quotes: \a \b \f \n \r \t \v \\ \" \' \s (a space), \xHH, \OOO (three
- * octal digits), \uHHHH and \UHHHHHHHH.
+ * or single quotes. Escapes count in and out of quotes: \a \b \f \n \r \t \v \\ \" \' \s (a space); \xHH and \OOO
+ * (three octal digits), which give one byte; \uHHHH and \UHHHHHHHH, which give the UTF-8 of the code point.
  * In:       text, any bytes; at most 4,096 are accepted.
  * Out:      bytes, at least HAVTSULEN_ITEM_BYTES bytes: the items one after another, quotes and escapes resolved;
  *           ends, at least HAVTSULEN_ITEM_ENDS numbers: ends[i] is the offset in bytes just after item i. Item i starts
@@ -230,11 +234,13 @@ size_t havtsulen_split(const uint8_t *text, size_t text_length, uint8_t *bytes, 
 /*
  * Writes items as a text that havtsulen_split gives back as the same items.
  * In:       bytes, the items one after another, of any length; ends, one number for each item, as havtsulen_split
- *           leaves them. ends_length is the number of items. Bytes behind the last end are no item.
+ *           leaves them. ends_length is the number of items, not HAVTSULEN_ITEM_ENDS. Bytes behind the last end are no
+ *           item.
  * Out:      out, at least HAVTSULEN_WRITE_BYTES bytes.
  * Accepted: report = length of the text, 0, 0, 0.
- * Refused:  1, 26 (more than 256 items), 28, 27, 20 (the text would be longer than 4,096 bytes), in this order.
- *           report = 0, 0, 0, 0, and out is as it was.
+ * Refused:  1, 26 (more than 256 items), 28 (an end lies below the one before it, or past bytes_length), 27 (a NUL byte
+ *           in an item; one behind the last end does no harm), 20 (the text would be longer than 4,096 bytes), in this
+ *           order. report = 0, 0, 0, 0, and out is as it was.
  */
 size_t havtsulen_write(const uint8_t *bytes, size_t bytes_length, const size_t *ends, size_t ends_length, uint8_t *out,
                        size_t out_length, size_t *report, size_t report_length);

@@ -48,8 +48,8 @@ back-from bytes ends l b e r b' e' h k s =
     let a : LaidAgain bytes ends = cut-is-laid-again bytes ends (l .fit) in
     let n : length (take (lastEnd 0 ends) bytes) ≡ lastEnd 0 ends = length-take-le (lastEnd 0 ends) bytes (a .inside) in
     let bytes-are : b' ≡ filled (take (lastEnd 0 ends) bytes) b =
-    s .bytes-after ∙ ap (λ (x : Outcome (List Bytes)). bytesAfter x b) o ∙ rw (a .bytes) in
-    let ends-are : e' ≡ filled ends e = s .ends-after ∙ ap (λ (x : Outcome (List Bytes)). endsAfter x e) o ∙ rw (a .ends-again) in
+    s .left .bytes-after ∙ ap (λ (x : Outcome (List Bytes)). bytesAfter x b) o ∙ rw (a .bytes) in
+    let ends-are : e' ≡ filled ends e = s .left .ends-after ∙ ap (λ (x : Outcome (List Bytes)). endsAfter x e) o ∙ rw (a .ends-again) in
     let bytes-front : take (lastEnd 0 ends) b' ≡ take (lastEnd 0 ends) bytes =
     ap (λ (i : ℕ). take i b') (sym n) ∙ ap (take (length (take (lastEnd 0 ends) bytes))) bytes-are ∙ take-filled (take (lastEnd 0 ends) bytes) b in
     let ends-front : take (length ends) e' ≡ ends = ap (take (length ends)) ends-are ∙ take-filled ends e in

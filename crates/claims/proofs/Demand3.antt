@@ -34,9 +34,9 @@ refused-with : {f : Bytes} (c : AnyCall f) (n p : ℕ) → outcomeOf c ≡ refus
 refused-with c n p e =
     record {
       answer = c .promise .answer ∙ ap sized e;
-      text-kept = c .promise .text-after ∙ ap (λ (o : Outcome Table). textAfter o (c .text)) e;
-      sections-kept = c .promise .sections-after ∙ ap (λ (o : Outcome Table). sectionsAfter o (c .sections)) e;
-      entries-kept = c .promise .entries-after ∙ ap (λ (o : Outcome Table). entriesAfter o (c .entries)) e;
+      text-kept = c .promise .left .text-after ∙ ap (λ (o : Outcome Table). textAfter o (c .text)) e;
+      sections-kept = c .promise .left .sections-after ∙ ap (λ (o : Outcome Table). sectionsAfter o (c .sections)) e;
+      entries-kept = c .promise .left .entries-after ∙ ap (λ (o : Outcome Table). entriesAfter o (c .entries)) e;
       out-kept = c .promise .out-after ∙ ap (λ (o : Outcome Table). outAfter o (c .out)) e;
     }
 

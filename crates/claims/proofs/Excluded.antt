@@ -28,8 +28,8 @@ splits-two b e r b' e' h k s =
     let o = two-split (length b) (length e) h k in
     record {
       answer = s .answer ∙ ap counted o;
-      bytes-after = s .bytes-after ∙ ap (λ (x : Outcome (List Bytes)). bytesAfter x b) o;
-      ends-after = s .ends-after ∙ ap (λ (x : Outcome (List Bytes)). endsAfter x e) o;
+      bytes-after = s .left .bytes-after ∙ ap (λ (x : Outcome (List Bytes)). bytesAfter x b) o;
+      ends-after = s .left .ends-after ∙ ap (λ (x : Outcome (List Bytes)). endsAfter x e) o;
     }
 
 none-written : (out : ℕ) → 4096 ≤ out → writeIn out (bytes "abc") [] ≡ accepted []

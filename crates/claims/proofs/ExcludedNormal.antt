@@ -37,9 +37,9 @@ normal-of-reopened c =
     let p = c .made .promise in
     record {
       answer = p .answer ∙ ap sized o;
-      text-after = p .text-after ∙ ap (λ (x : Outcome Table). textAfter x (c .made .text)) o;
-      sections-after = p .sections-after ∙ ap (λ (x : Outcome Table). sectionsAfter x (c .made .sections)) o;
-      entries-after = p .entries-after ∙ ap (λ (x : Outcome Table). entriesAfter x (c .made .entries)) o;
+      text-after = p .left .text-after ∙ ap (λ (x : Outcome Table). textAfter x (c .made .text)) o;
+      sections-after = p .left .sections-after ∙ ap (λ (x : Outcome Table). sectionsAfter x (c .made .sections)) o;
+      entries-after = p .left .entries-after ∙ ap (λ (x : Outcome Table). entriesAfter x (c .made .entries)) o;
       out-after = p .out-after ∙ ap (λ (x : Outcome Table). outAfter x (c .made .out)) o;
     }
 

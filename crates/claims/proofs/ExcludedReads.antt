@@ -29,9 +29,9 @@ refusal-of-file f n p r e c =
     let o = decided f r c ∙ e in
     record {
       answer = answered f r c _ e;
-      text-kept = c .promise .text-after ∙ ap (λ (x : Outcome Table). textAfter x (c .text)) o;
-      sections-kept = c .promise .sections-after ∙ ap (λ (x : Outcome Table). sectionsAfter x (c .sections)) o;
-      entries-kept = c .promise .entries-after ∙ ap (λ (x : Outcome Table). entriesAfter x (c .entries)) o;
+      text-kept = c .promise .left .text-after ∙ ap (λ (x : Outcome Table). textAfter x (c .text)) o;
+      sections-kept = c .promise .left .sections-after ∙ ap (λ (x : Outcome Table). sectionsAfter x (c .sections)) o;
+      entries-kept = c .promise .left .entries-after ∙ ap (λ (x : Outcome Table). entriesAfter x (c .entries)) o;
     }
 
 pub reads-nothing : ReadsNothing
@@ -44,9 +44,9 @@ reads-two r c =
     let o = decided twoSections r c in
     record {
       answer = c .promise .answer ∙ ap counted o;
-      text-after = c .promise .text-after ∙ ap (λ (x : Outcome Table). textAfter x (c .text)) o;
-      sections-after = c .promise .sections-after ∙ ap (λ (x : Outcome Table). sectionsAfter x (c .sections)) o;
-      entries-after = c .promise .entries-after ∙ ap (λ (x : Outcome Table). entriesAfter x (c .entries)) o;
+      text-after = c .promise .left .text-after ∙ ap (λ (x : Outcome Table). textAfter x (c .text)) o;
+      sections-after = c .promise .left .sections-after ∙ ap (λ (x : Outcome Table). sectionsAfter x (c .sections)) o;
+      entries-after = c .promise .left .entries-after ∙ ap (λ (x : Outcome Table). entriesAfter x (c .entries)) o;
     }
 
 pub no-one-answer : NoOneAnswer

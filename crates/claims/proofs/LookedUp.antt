@@ -53,7 +53,7 @@ module _ (f : Bytes) (t : Table) (v : verdict f ≡ accepted t) (c : AcceptedRea
   -- the buffers are those that the table was read into
   lent-is : lentAfter c ≡ readInto t (c .text-before) (c .sections-before) (c .entries-before)
   lent-is =
-      rw (c .promise .text-after, c .promise .sections-after, c .promise .entries-after, is-table, counts-are)
+      rw (c .promise .left .text-after, c .promise .left .sections-after, c .promise .left .entries-after, is-table, counts-are)
 
   decodes : tableIn (lentAfter c) ≡ some (decodedOf t)
   decodes = ap tableIn lent-is ∙ tables-decode f t v (c .text-before) (c .sections-before) (c .entries-before)

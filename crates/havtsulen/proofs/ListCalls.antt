@@ -1,5 +1,5 @@
 -- Lists of items.
-use mathlib.Core.Path.{_≡_, refl, sym, ap, _∙_}
+use mathlib.Core.Path.{_≡_, refl, sym, ap, subst, _∙_}
 use Prim.Native.Nat.{ℕ, _≤_, _<_}
 use mathlib.Core.List.{List}
 use lib.ListN.{length}
@@ -7,10 +7,11 @@ use Rattle.lines.specs.Bytes.{Bytes}
 use Rattle.lines.specs.Answers.{Outcome, accepted, refused}
 use Rattle.items.specs.Split.{splitIn}
 use Rattle.items.specs.Write.{writeIn}
-use Rattle.items.specs.Answers.{numberOf, placeOf, splitMeans, counted, bytesAfter, endsAfter, Splits}
+use Rattle.items.specs.Answers.{numberOf, placeOf, splitMeans, counted, ItemsLeft, Splits}
 use Rattle.items.specs.declared.error.Error.{Error}
 use Rattle.items.specs.declared.splitter.SplitAnswer.{SplitAnswer}
 use Rattle.items.specs.declared.splitter.SplitAnswer.the-variants.{Accepted as SplitAccepted, Refused as SplitRefused}
+use Rattle.items.proofs.SplitCalls.{items-kept}
 use Rattle.item_writer.specs.Answers.{writeMeans, measured, textAfter, Writes}
 use Rattle.item_writer.specs.declared.writer.WriteAnswer.{WriteAnswer}
 use Rattle.item_writer.specs.declared.writer.WriteAnswer.the-variants.{Accepted as WriteAccepted, Refused as WriteRefused}
@@ -28,29 +29,27 @@ module _ (text bytes : Bytes) (ends report : List ℕ) where
 
   pub split-short : length report < 4 → ReportsSplit text bytes ends report 1 bytes ends report
   split-short h =
-      let e = with-short (length report) split-outcome h in
+      let e = with-short report split-outcome h in
       record {
         reports = short itemsTold _ report h (ap counted e);
-        bytes-after = ap (λ (o : Outcome (List Bytes)). bytesAfter o bytes) (sym e);
-        ends-after = ap (λ (o : Outcome (List Bytes)). endsAfter o ends) (sym e);
+        left = items-kept _ 1 0 e bytes ends;
       }
 
   module _ (h : 4 ≤ length report) (a : SplitAnswer) (bytes' : Bytes) (ends' : List ℕ) (made : Splits text bytes ends a bytes' ends')
       (r : ℕ) (report' : List ℕ) where
-    split-same : split-outcome ≡ withReport (length report) split-outcome
-    split-same = sym (with-long (length report) split-outcome h)
+    split-same : split-outcome ≡ withReport report split-outcome
+    split-same = sym (with-long report split-outcome h)
 
-    split-means : splitMeans a ≡ counted (withReport (length report) split-outcome)
+    split-means : splitMeans a ≡ counted (withReport report split-outcome)
     split-means = made .answer ∙ ap counted split-same
 
     -- the buffers are as the call has left them
-    split-leaves : Reports itemsTold (counted (withReport (length report) split-outcome)) report r report'
+    split-leaves : Reports itemsTold (counted (withReport report split-outcome)) report r report'
         → ReportsSplit text bytes ends report r bytes' ends' report'
     split-leaves p =
         record {
           reports = p;
-          bytes-after = made .bytes-after ∙ ap (λ (o : Outcome (List Bytes)). bytesAfter o bytes) split-same;
-          ends-after = made .ends-after ∙ ap (λ (o : Outcome (List Bytes)). endsAfter o ends) split-same;
+          left = subst (λ (o : Outcome (List Bytes)). ItemsLeft o bytes ends bytes' ends') split-same (made .left);
         }
 
     pub split-accepted : (n m : ℕ) → a ≡ SplitAccepted n m → Replies 0 n m 0 0 report r report'
@@ -71,21 +70,21 @@ module _ (bytes : Bytes) (ends : List ℕ) (out : Bytes) (report : List ℕ) whe
 
   pub write-short : length report < 4 → ReportsWrite bytes ends out report 1 out report
   write-short h =
-      let e = with-short (length report) write-outcome h in
+      let e = with-short report write-outcome h in
       record {
         reports = short numberTold _ report h (ap measured e);
         out-after = ap (λ (o : Outcome Bytes). textAfter o out) (sym e);
       }
 
   module _ (h : 4 ≤ length report) (a : WriteAnswer) (out' : Bytes) (made : Writes bytes ends out a out') (r : ℕ) (report' : List ℕ) where
-    write-same : write-outcome ≡ withReport (length report) write-outcome
-    write-same = sym (with-long (length report) write-outcome h)
+    write-same : write-outcome ≡ withReport report write-outcome
+    write-same = sym (with-long report write-outcome h)
 
-    write-means : writeMeans a ≡ measured (withReport (length report) write-outcome)
+    write-means : writeMeans a ≡ measured (withReport report write-outcome)
     write-means = made .answer ∙ ap measured write-same
 
     -- the buffer is as the call has left it
-    write-leaves : Reports numberTold (measured (withReport (length report) write-outcome)) report r report'
+    write-leaves : Reports numberTold (measured (withReport report write-outcome)) report r report'
         → ReportsWrite bytes ends out report r out' report'
     write-leaves p = record { reports = p; out-after = made .out-after ∙ ap (λ (o : Outcome Bytes). textAfter o out) write-same }
 

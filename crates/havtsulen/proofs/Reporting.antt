@@ -8,25 +8,25 @@ use lib.Dec.{ltb, eqb}
 use borrow.Author.Tests.{lt-ltb, le-ltb}
 use Rattle.lines.specs.Answers.{Outcome, accepted, refused}
 use Rattle.lines.specs.Buffers.{filled}
-use Rattle.havtsulen.specs.Reports.{isAccepted, four, reported, withReport, reportAfter, Reports}
+use Rattle.havtsulen.specs.Reports.{isAccepted, four, reported, isShort, withReport, reportAfter, Reports}
 use Rattle.havtsulen.specs.Steps.{Replies}
 
 -- ---- the report is judged before everything
 
-pub with-short : {A : Type 0} (n : ℕ) (o : Outcome A) → n < 4 → withReport n o ≡ refused 1 0
-unfolding withReport
-with-short n o h = rw (lt-ltb n 4 h)
+pub with-short : {A : Type 0} (report : List ℕ) (o : Outcome A) → length report < 4 → withReport report o ≡ refused 1 0
+unfolding withReport isShort
+with-short report o h = rw (lt-ltb (length report) 4 h)
 
-pub with-long : {A : Type 0} (n : ℕ) (o : Outcome A) → 4 ≤ n → withReport n o ≡ o
-unfolding withReport
-with-long n o h = rw (le-ltb n 4 h)
+pub with-long : {A : Type 0} (report : List ℕ) (o : Outcome A) → 4 ≤ length report → withReport report o ≡ o
+unfolding withReport isShort
+with-long report o h = rw (le-ltb (length report) 4 h)
 
 -- ---- reports
 
 module _ {A : Type 0} (told : A → List ℕ) (o : Outcome A) (report : List ℕ) where
   -- a short one is left as it was
   pub short : length report < 4 → o ≡ refused 1 0 → Reports told o report 1 report
-  unfolding reportAfter
+  unfolding reportAfter isShort
   short h e =
       subst (λ (v : Outcome A). Reports told v report 1 report) (sym e)
       (record { answer = refl; decides = refl; report-after = rw (lt-ltb (length report) 4 h) })
@@ -34,7 +34,7 @@ module _ {A : Type 0} (told : A → List ℕ) (o : Outcome A) (report : List ℕ
   module _ (h : 4 ≤ length report) (r : ℕ) (report' : List ℕ) where
     -- what is put into any other
     after : (ns : List ℕ) → report' ≡ filled ns report → report' ≡ reportAfter ns report
-    unfolding reportAfter
+    unfolding reportAfter isShort
     after ns p = p ∙ rw (le-ltb (length report) 4 h)
 
     -- a reply for what was accepted

@@ -24,11 +24,11 @@ use Rattle.havtsulen.proofs.Numbers.{value-number}
 
 module _ (text : Bytes) (report : List ℕ) where
   pub boolean-short : length report < 4 → ReportsBoolean text report 1 report
-  boolean-short h = short truthTold _ report h (with-short (length report) (booleanOf text) h)
+  boolean-short h = short truthTold _ report h (with-short report (booleanOf text) h)
 
   module _ (h : 4 ≤ length report) (a : BooleanAnswer) (e : booleanMeans a ≡ booleanOf text) (r : ℕ) (report' : List ℕ) where
-    boolean-means : booleanMeans a ≡ withReport (length report) (booleanOf text)
-    boolean-means = e ∙ sym (with-long (length report) (booleanOf text) h)
+    boolean-means : booleanMeans a ≡ withReport report (booleanOf text)
+    boolean-means = e ∙ sym (with-long report (booleanOf text) h)
 
     pub boolean-accepted : (b : Bool) → a ≡ BooleanAccepted b → (n : ℕ) → n ≡ cond b 1 0 → Replies 0 n 0 0 0 report r report'
         → ReportsBoolean text report r report'
@@ -44,11 +44,11 @@ module _ (text : Bytes) (report : List ℕ) where
 
 module _ (text : Bytes) (report : List ℕ) where
   pub span-short : length report < 4 → ReportsSpan text report 1 report
-  span-short h = short numberTold _ report h (with-short (length report) (spanOf text) h)
+  span-short h = short numberTold _ report h (with-short report (spanOf text) h)
 
   module _ (h : 4 ≤ length report) (a : SpanAnswer) (e : spanMeans a ≡ spanOf text) (r : ℕ) (report' : List ℕ) where
-    span-means : spanMeans a ≡ withReport (length report) (spanOf text)
-    span-means = e ∙ sym (with-long (length report) (spanOf text) h)
+    span-means : spanMeans a ≡ withReport report (spanOf text)
+    span-means = e ∙ sym (with-long report (spanOf text) h)
 
     pub span-accepted : (n : ℕ) → a ≡ SpanAccepted n → Replies 0 n 0 0 0 report r report' → ReportsSpan text report r report'
     span-accepted n known p = accepts numberTold _ report h r report' n (ap spanMeans (sym known) ∙ span-means) n 0 0 0 refl p

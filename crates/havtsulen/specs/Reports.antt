@@ -27,15 +27,21 @@ abbrev pub reported : {A : Type 0} → (told : A → List ℕ) → Outcome A →
 reported told (accepted x) = told x
 reported told (refused n p) = four p 0 0 0
 
--- 1 before everything, where the report is shorter than four numbers
-unfoldable pub withReport : {A : Type 0} → (size : ℕ) → Outcome A → Outcome A
-withReport size o = cond (ltb size 4) (refused 1 0) o
+-- a report is too short where it has fewer than four numbers
+unfoldable pub isShort : (report : List ℕ) → Bool
+isShort report = ltb (length report) 4
+
+-- that is 1, before everything
+unfoldable pub withReport : {A : Type 0} → (report : List ℕ) → Outcome A → Outcome A
+unfolding isShort
+withReport report o = cond (isShort report) (refused 1 0) o
 
 -- the report afterwards: the four numbers in front, and the rest as it was; one that is too short stays as it was
 unfoldable pub reportAfter : (numbers : List ℕ) → List ℕ → List ℕ
-reportAfter numbers d = cond (ltb (length d) 4) d (filled numbers d)
+unfolding isShort
+reportAfter numbers report = cond (isShort report) report (filled numbers report)
 
--- what a call answers and leaves in the report, where this is the outcome; the answer is 0 only for accepted
+-- what a call answers and leaves in the report, where this is the outcome; the answer is 0 exactly for accepted
 pub record Reports {A : Type 0} (told : A → List ℕ) (o : Outcome A) (report : List ℕ) (r : ℕ) (report' : List ℕ) : Type 0 where
   pub answer : r ≡ answered o
   pub decides : eqb r 0 ≡ isAccepted o

@@ -5,12 +5,12 @@ use crate::report::reply;
 use lines::Check;
 use normal_text::NormalAnswer;
 use table::ReadAnswer;
-ghost use Rattle.havtsulen.specs.Answers.{ReportsLength, ReportsCheck, ReportsRead, ReportsNormal};
+ghost use Rattle.havtsulen.specs.Answers.{ReportsWellFormedLength, ReportsCheckFile, ReportsRead, ReportsNormalText};
 
 // The length of the longest well-formed start of a text.
 #[no_mangle]
 pub extern "C" fn havtsulen_well_formed_length(text: &[u8], report: &mut [usize]) -> usize
-    ensures { λ r. ⌜ ReportsLength (now (text .entry)) (now (report .entry)) r (now (report .exit)) ⌝ }
+    ensures { λ r. ⌜ ReportsWellFormedLength (now (text .entry)) (now (report .entry)) r (now (report .exit)) ⌝ }
 {
     if report.len() < REPORT_NUMBERS {
         return SHORT_REPORT;
@@ -21,7 +21,7 @@ pub extern "C" fn havtsulen_well_formed_length(text: &[u8], report: &mut [usize]
 // What is judged of a whole file: its size, UTF-8, control bytes.
 #[no_mangle]
 pub extern "C" fn havtsulen_check_file(file: &[u8], report: &mut [usize]) -> usize
-    ensures { λ r. ⌜ ReportsCheck (now (file .entry)) (now (report .entry)) r (now (report .exit)) ⌝ }
+    ensures { λ r. ⌜ ReportsCheckFile (now (file .entry)) (now (report .entry)) r (now (report .exit)) ⌝ }
 {
     if report.len() < REPORT_NUMBERS {
         return SHORT_REPORT;
@@ -66,7 +66,7 @@ pub extern "C" fn havtsulen_normal_text(
     out: &mut [u8],
     report: &mut [usize],
 ) -> usize
-    ensures { λ r. ⌜ ReportsNormal (now (file .entry)) (now (text .entry)) (now (sections .entry)) (now (entries .entry)) (now (out .entry)) (now (report .entry)) r (now (text .exit)) (now (sections .exit)) (now (entries .exit)) (now (out .exit)) (now (report .exit)) ⌝ }
+    ensures { λ r. ⌜ ReportsNormalText (now (file .entry)) (now (text .entry)) (now (sections .entry)) (now (entries .entry)) (now (out .entry)) (now (report .entry)) r (now (text .exit)) (now (sections .exit)) (now (entries .exit)) (now (out .exit)) (now (report .exit)) ⌝ }
 {
     if report.len() < REPORT_NUMBERS {
         return SHORT_REPORT;

@@ -7,7 +7,7 @@ use lookup::ValueAnswer;
 use lookup::Which;
 ghost use mathlib.Core.Path.{_≡_};
 ghost use Rattle.lookup.specs.Decoding.{lent};
-ghost use Rattle.havtsulen.specs.Answers.{whichOf, ReportsIndex, ReportsPart, ReportsValue};
+ghost use Rattle.havtsulen.specs.Answers.{whichOf, ReportsFind, ReportsValueCheck, ReportsValue};
 
 // Which entry a number asks for: 0 the first, any other the last.
 fn which_of(which: usize) -> Which
@@ -32,7 +32,7 @@ pub extern "C" fn havtsulen_find(
     entry_count: usize,
     report: &mut [usize],
 ) -> usize
-    ensures { λ r. ⌜ ReportsIndex (lent (now (text .entry)) (now (sections .entry)) «section_count» (now (entries .entry)) «entry_count») which (now (section .entry)) (now (key .entry)) (now (report .entry)) r (now (report .exit)) ⌝ }
+    ensures { λ r. ⌜ ReportsFind (lent (now (text .entry)) (now (sections .entry)) «section_count» (now (entries .entry)) «entry_count») which (now (section .entry)) (now (key .entry)) (now (report .entry)) r (now (report .exit)) ⌝ }
 {
     if report.len() < REPORT_NUMBERS {
         return SHORT_REPORT;
@@ -63,7 +63,7 @@ pub extern "C" fn havtsulen_value_check(
     entry_count: usize,
     report: &mut [usize],
 ) -> usize
-    ensures { λ r. ⌜ ReportsPart (lent (now (text .entry)) (now (sections .entry)) «section_count» (now (entries .entry)) «entry_count») index (now (report .entry)) r (now (report .exit)) ⌝ }
+    ensures { λ r. ⌜ ReportsValueCheck (lent (now (text .entry)) (now (sections .entry)) «section_count» (now (entries .entry)) «entry_count») index (now (report .entry)) r (now (report .exit)) ⌝ }
 {
     if report.len() < REPORT_NUMBERS {
         return SHORT_REPORT;

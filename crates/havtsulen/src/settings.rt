@@ -32,7 +32,7 @@ pub extern "C" fn havtsulen_boolean(text: &[u8], report: &mut [usize]) -> usize
     }
 }
 
-// How many microseconds a text states. A number has 64 bits here, as they have.
+// How many microseconds a text states. A usize has 64 bits, so that every number of them fits.
 #[no_mangle]
 pub extern "C" fn havtsulen_span(text: &[u8], report: &mut [usize]) -> usize
     ensures { λ r. ⌜ ReportsSpan (now (text .entry)) (now (report .entry)) r (now (report .exit)) ⌝ }

@@ -1,5 +1,5 @@
 -- A call of `split`, by its answer: each refusal, and the items that were read and copied.
-use mathlib.Core.Path.{_≡_, sym, ap, subst, _∙_}
+use mathlib.Core.Path.{_≡_, refl, sym, ap, subst, _∙_}
 use Prim.Native.Nat.{ℕ, _+_, _-_, _≤_, _<_}
 use native.Mathlib.Omega.{arith}
 use mathlib.Core.Bool.{cond}
@@ -13,7 +13,7 @@ use Rattle.lines.specs.Buffers.{put}
 use Rattle.lines.proofs.Buffers.{front-copied}
 use Rattle.items.specs.Pieces.{pieces}
 use Rattle.items.specs.Split.{firstForbidden, itemsOf, splitOf, splitIn, bytesOf, endsFrom}
-use Rattle.items.specs.Answers.{numberOf, placeOf, splitMeans, counted, bytesAfter, endsAfter, SplitLeaves, Splits}
+use Rattle.items.specs.Answers.{numberOf, placeOf, splitMeans, counted, bytesAfter, endsAfter, ItemsLeft, SplitLeaves, Splits}
 use Rattle.items.specs.Steps.{AllRead, ReadAll}
 use Rattle.items.specs.declared.error.Error.{Error}
 use Rattle.items.specs.declared.error.Error.the-variants.{ShortBuffer, TextTooLong, ForbiddenByte}
@@ -30,14 +30,17 @@ pub all-known : (o : Outcome (List Bytes)) (b b' : Bytes) (e e' : List ℕ) (r :
 all-known o b b' e e' r n m q h = subst (ReadAll o b b' e e') q h
 
 -- a refusal leaves the lent buffers as they were
+pub items-kept : (o : Outcome (List Bytes)) (n p : ℕ) → o ≡ refused n p → (bytes : Bytes) (ends : List ℕ) → ItemsLeft o bytes ends bytes ends
+items-kept o n p e bytes ends =
+    subst (λ (x : Outcome (List Bytes)). ItemsLeft x bytes ends bytes ends) (sym e) (record { bytes-after = refl; ends-after = refl })
+
 pub apart-refused : (o : Outcome (List Bytes)) (b b' : Bytes) (e e' : List ℕ) (r : SplitAnswer) (k : Error) → r ≡ Refused k
     → ReadAll o b b' e e' r → (bytes : Bytes) (ends : List ℕ) → SplitLeaves o bytes ends r bytes ends
 apart-refused o b b' e e' r k q h bytes ends =
     let f : o ≡ refused (numberOf k) (placeOf k) = subst (ReadAll o b b' e e') q h in
     record {
       answer = ap splitMeans q ∙ sym (ap counted f);
-      bytes-after = sym (ap (λ (x : Outcome (List Bytes)). bytesAfter x bytes) f);
-      ends-after = sym (ap (λ (x : Outcome (List Bytes)). endsAfter x ends) f);
+      left = items-kept o (numberOf k) (placeOf k) f bytes ends;
     }
 
 -- items that were read are copied
@@ -49,13 +52,15 @@ pub apart-copied : (o : Outcome (List Bytes)) (b b' : Bytes) (e e' : List ℕ) (
 apart-copied o b b' e e' n m h bytes bytes' ends ends' l k p q =
     record {
       answer = rw (h .count-is, h .size-is) (sym (ap counted (h .outcome)));
-      bytes-after =
-          front-copied (bytesOf (h .items)) b b' bytes bytes' m (h .bytes-are) (h .size-is) (omega (arith, h .fits)) p
-          ∙ sym (ap (λ (x : Outcome (List Bytes)). bytesAfter x bytes) (h .outcome));
-      ends-after =
-          front-copied (endsFrom 0 (h .items)) e e' ends ends' n (h .ends-are) (h .count-is ∙ sym (ends-length 0 (h .items)))
-          (omega (arith, h .few)) q
-          ∙ sym (ap (λ (x : Outcome (List Bytes)). endsAfter x ends) (h .outcome));
+      left = record {
+        bytes-after =
+            front-copied (bytesOf (h .items)) b b' bytes bytes' m (h .bytes-are) (h .size-is) (omega (arith, h .fits)) p
+            ∙ sym (ap (λ (x : Outcome (List Bytes)). bytesAfter x bytes) (h .outcome));
+        ends-after =
+            front-copied (endsFrom 0 (h .items)) e e' ends ends' n (h .ends-are) (h .count-is ∙ sym (ends-length 0 (h .items)))
+            (omega (arith, h .few)) q
+            ∙ sym (ap (λ (x : Outcome (List Bytes)). endsAfter x ends) (h .outcome));
+      };
     }
 
 -- ---- the call
@@ -65,8 +70,7 @@ module _ (t bytes : Bytes) (ends : List ℕ) where
   call-refused k e =
       record {
         answer = sym (ap counted e);
-        bytes-after = sym (ap (λ (x : Outcome (List Bytes)). bytesAfter x bytes) e);
-        ends-after = sym (ap (λ (x : Outcome (List Bytes)). endsAfter x ends) e);
+        left = items-kept _ (numberOf k) (placeOf k) e bytes ends;
       }
 
   pub short-bytes : length bytes < 4096 → Splits t bytes ends (Refused ShortBuffer) bytes ends

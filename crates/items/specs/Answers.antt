@@ -69,11 +69,15 @@ abbrev pub endsAfter : Outcome (List Bytes) → List ℕ → List ℕ
 endsAfter (accepted xs) d = filled (endsFrom 0 xs) d
 endsAfter (refused n p) d = d
 
--- what a call answers and leaves in both buffers, where this is the outcome
-pub record SplitLeaves (o : Outcome (List Bytes)) (bytes : Bytes) (ends : List ℕ) (r : SplitAnswer) (bytes' : Bytes) (ends' : List ℕ) : Type 0 where
-  pub answer : splitMeans r ≡ counted o
+-- what a call leaves in both buffers, where this is the outcome
+pub record ItemsLeft (o : Outcome (List Bytes)) (bytes : Bytes) (ends : List ℕ) (bytes' : Bytes) (ends' : List ℕ) : Type 0 where
   pub bytes-after : bytes' ≡ bytesAfter o bytes
   pub ends-after : ends' ≡ endsAfter o ends
+
+-- and what it answers
+pub record SplitLeaves (o : Outcome (List Bytes)) (bytes : Bytes) (ends : List ℕ) (r : SplitAnswer) (bytes' : Bytes) (ends' : List ℕ) : Type 0 where
+  pub answer : splitMeans r ≡ counted o
+  pub left : ItemsLeft o bytes ends bytes' ends'
 
 -- the promise of `split`: the answer, and both buffers whole
 abbrev pub Splits : (text bytes : Bytes) (ends : List ℕ) (r : SplitAnswer) (bytes' : Bytes) (ends' : List ℕ) → Type 0

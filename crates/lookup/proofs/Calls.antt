@@ -10,12 +10,12 @@ use lib.ListN.{length, take, drop, getD}
 use lib.Dec.{leb}
 use borrow.Author.Tests.{lt-ltb, le-ltb, leb-true, leb-false}
 use Rattle.lines.specs.Bytes.{Bytes}
-use Rattle.lines.specs.Answers.{accepted, refused}
+use Rattle.lines.specs.Answers.{Outcome, accepted, refused}
 use Rattle.lines.proofs.Bools.{impossible, by-cases}
 use Rattle.table.specs.Tables.{Entry}
 use Rattle.lookup.specs.Decoding.{part, namesIn, entriesIn, Lent, Decoded, tableIn}
-use Rattle.lookup.specs.Questions.{valueAt, valuePart, onTable, orMissing, indexIn, valueIn, partIn}
-use Rattle.lookup.specs.Answers.{errorMeans, findMeans, valueMeans, bytesOr, startOr, HandsBack}
+use Rattle.lookup.specs.Questions.{valueAt, Part, valuePart, onTable, orMissing, indexIn, valueIn, partIn}
+use Rattle.lookup.specs.Answers.{errorMeans, findMeans, valueMeans, bytesOr, partOr, HandsBack}
 use Rattle.lookup.specs.Laws.{PartOfValue, PartIsValue}
 use Rattle.lookup.specs.Steps.{there, Finds}
 use Rattle.lookup.specs.declared.error.Error.{Error}
@@ -147,7 +147,7 @@ module _ (b : Lent) (i : ℕ) (r : ValueAnswer) where
     hands-part text result s t = record {
       bytes = lent-part (b .text) a n ∙ sym (ap bytesOr (agrees .1));
       block = s;
-      offset = t ∙ ap (λ (z : ℕ). text .1 + z) (sym (ap startOr told));
+      offset = t ∙ ap (λ (z : ℕ). text .1 + z) (sym (ap (λ (p : Outcome Part). partOr p .start) told));
     }
 
   -- or the empty one at the start
@@ -159,5 +159,5 @@ module _ (b : Lent) (i : ℕ) (r : ValueAnswer) where
       record {
         bytes = sym (ap bytesOr v);
         block = s;
-        offset = t ∙ sym (ap (λ (z : ℕ). text .1 + z) (ap startOr o) ∙ add-zero (text .1));
+        offset = t ∙ sym (ap (λ (z : ℕ). text .1 + z) (ap (λ (p : Outcome Part). partOr p .start) o) ∙ add-zero (text .1));
       }

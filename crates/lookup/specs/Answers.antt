@@ -48,10 +48,10 @@ abbrev pub bytesOr : Outcome Bytes → Bytes
 bytesOr (accepted v) = v
 bytesOr (refused n p) = []
 
--- its start, that of the text where there is none
-abbrev pub startOr : Outcome Part → ℕ
-startOr (accepted p) = p .start
-startOr (refused n p) = 0
+-- its part of the text, the part of length 0 at the start where there is none
+abbrev pub partOr : Outcome Part → Part
+partOr (accepted p) = p
+partOr (refused n p) = record { start = 0; size = 0 }
 
 -- The promise of `value`: the bytes of the entry's value, and they are a part of the text buffer itself; where there is
 -- none, the part of length 0 at its start. A slice lies in a block of memory from an offset on: `textAt` is where the lent
@@ -59,4 +59,4 @@ startOr (refused n p) = 0
 pub record HandsBack (b : Lent) (i : ℕ) (textAt resultAt : ℕ × ℕ) (r : Bytes) : Type 0 where
   pub bytes : r ≡ bytesOr (valueIn b i)
   pub block : resultAt .0 ≡ textAt .0
-  pub offset : resultAt .1 ≡ textAt .1 + startOr (partIn b i)
+  pub offset : resultAt .1 ≡ textAt .1 + partOr (partIn b i) .start

@@ -23,6 +23,7 @@ use Rattle.table.specs.declared.error.Error.the-variants.{File}
 use Rattle.table.specs.declared.reader.ReadAnswer.{ReadAnswer}
 use Rattle.table.specs.declared.reader.ReadAnswer.the-variants.{Accepted as ReadAccepted, Refused as ReadRefused}
 use Rattle.table.proofs.Laws.{tables-fit}
+use Rattle.table.proofs.ReadCalls.{table-kept}
 use Rattle.lookup.specs.Decoding.{lent, tableIn}
 use Rattle.lookup.specs.Laws.{readInto, decodedOf}
 use Rattle.lookup.proofs.Laws.{tables-decode}
@@ -42,9 +43,7 @@ no-space f text sections entries out h =
     let e : normalIn (length text) (length sections) (length entries) (length out) f ≡ refused 1 0 = unfold normalIn in (rw (lt-ltb (length out) 65535 h)) in
     record {
       answer = ap sized (sym e);
-      text-after = ap (λ (o : Outcome Table). textAfter o text) (sym e);
-      sections-after = ap (λ (o : Outcome Table). sectionsAfter o sections) (sym e);
-      entries-after = ap (λ (o : Outcome Table). entriesAfter o entries) (sym e);
+      left = table-kept _ 1 0 e text sections entries;
       out-after = ap (λ (o : Outcome Table). outAfter o out) (sym e);
     }
 
@@ -91,13 +90,13 @@ module _ (f d : Bytes) (e g : List ℕ) (r : ReadAnswer) (text : Bytes) (section
   judged = read-verdict (length d) (length e) (length g) f t (there .1)
 
   text-is : text ≡ filled (textOf (t .events)) d
-  text-is = promise .text-after ∙ ap (λ (o : Outcome Table). textAfter o d) (there .1)
+  text-is = promise .left .text-after ∙ ap (λ (o : Outcome Table). textAfter o d) (there .1)
 
   sections-are : sections ≡ filled (sectionNumbers (t .events)) e
-  sections-are = promise .sections-after ∙ ap (λ (o : Outcome Table). sectionsAfter o e) (there .1)
+  sections-are = promise .left .sections-after ∙ ap (λ (o : Outcome Table). sectionsAfter o e) (there .1)
 
   entries-are : numbers ≡ filled (entryNumbers (t .events)) g
-  entries-are = promise .entries-after ∙ ap (λ (o : Outcome Table). entriesAfter o g) (there .1)
+  entries-are = promise .left .entries-after ∙ ap (λ (o : Outcome Table). entriesAfter o g) (there .1)
 
   -- the buffers hold the table
   lent-is : lent text sections m numbers k ≡ readInto t d e g
@@ -145,9 +144,7 @@ module _ (f d : Bytes) (e g : List ℕ) (r : ReadAnswer) (text : Bytes) (section
       subst (λ (v : Outcome Table). NormalLeaves v d e g out (Accepted l n m k) text sections numbers out') (sym o)
       (record {
         answer = rw long (ap (λ (c : Counts). accepted (record { length = length (normalOf t); table = c })) (there .2));
-        text-after = text-is;
-        sections-after = sections-are;
-        entries-after = entries-are;
+        left = record { text-after = text-is; sections-after = sections-are; entries-after = entries-are };
         out-after = p .after ∙ rw (said, zero-add);
       })
 
@@ -165,8 +162,6 @@ read-refused f d e g r text sections numbers read k known out h =
     go (accepted t) p = not-accepted (numberOf k) (placeOf k) (countsOf t) (p .answer)
     go (refused n q) p = record {
       answer = cc (p .answer);
-      text-after = p .text-after;
-      sections-after = p .sections-after;
-      entries-after = p .entries-after;
+      left = p .left;
       out-after = refl;
     }

@@ -9,7 +9,7 @@ use Rattle.lines.specs.Bytes.{Bytes}
 use Rattle.lines.specs.Answers.{Outcome, accepted, refused}
 use Rattle.lines.specs.Buffers.{filled}
 use Rattle.table.specs.Tables.{Table}
-use Rattle.table.specs.Answers.{errorMeans, Counts, countsOf, textAfter, sectionsAfter, entriesAfter, readIn}
+use Rattle.table.specs.Answers.{errorMeans, Counts, countsOf, TableLeft, readIn}
 use Rattle.normal_text.specs.Sections.{sectionsOf}
 use Rattle.normal_text.specs.NormalText.{normalText}
 use Rattle.normal_text.specs.declared.normal.NormalAnswer.{NormalAnswer}
@@ -47,9 +47,7 @@ outAfter (refused n p) d = d
 pub record NormalLeaves (o : Outcome Table) (text : Bytes) (sections entries : List ℕ) (out : Bytes)
     (r : NormalAnswer) (text' : Bytes) (sections' entries' : List ℕ) (out' : Bytes) : Type 0 where
   pub answer : normalMeans r ≡ sized o
-  pub text-after : text' ≡ textAfter o text
-  pub sections-after : sections' ≡ sectionsAfter o sections
-  pub entries-after : entries' ≡ entriesAfter o entries
+  pub left : TableLeft o text sections entries text' sections' entries'
   pub out-after : out' ≡ outAfter o out
 
 -- 1 before everything, for any of the four: the output buffer has at least 65,535 bytes. Then it refuses as the reader does.

@@ -24,7 +24,7 @@ use Rattle.lines.proofs.Laws.{checked-is-sound}
 use Rattle.table.specs.Tables.{Table, emptyTable, names, andThen, run, verdict}
 use Rattle.table.specs.Tables as tables
 use Rattle.table.specs.Contents.{textOf, sectionNumbers, entryNumbers}
-use Rattle.table.specs.Answers.{numberOf, placeOf, errorMeans, readMeans, counted, textAfter, sectionsAfter, entriesAfter, ReadLeaves, readIn, Reads}
+use Rattle.table.specs.Answers.{numberOf, placeOf, errorMeans, readMeans, counted, textAfter, sectionsAfter, entriesAfter, TableLeft, ReadLeaves, readIn, Reads}
 use Rattle.table.specs.Steps.{AllRead, ReadInto}
 use Rattle.table.specs.declared.error.Error.{Error}
 use Rattle.table.specs.declared.error.Error.the-variants.{File}
@@ -35,14 +35,18 @@ use Rattle.table.proofs.Events.{sections-length, entries-length}
 
 -- ---- a refusal leaves the lent buffers as they were
 
+pub table-kept : (o : Outcome Table) (n p : ℕ) → o ≡ refused n p → (text : Bytes) (sections entries : List ℕ)
+    → TableLeft o text sections entries text sections entries
+table-kept o n p e text sections entries =
+    subst (λ (x : Outcome Table). TableLeft x text sections entries text sections entries) (sym e)
+    (record { text-after = refl; sections-after = refl; entries-after = refl })
+
 leaves-refused : (o : Outcome Table) (k : Error) → o ≡ errorMeans k → (r : ReadAnswer) → r ≡ Refused k → (text : Bytes) (sections entries : List ℕ)
     → ReadLeaves o text sections entries r text sections entries
 leaves-refused o k f r q text sections entries =
     record {
       answer = ap readMeans q ∙ sym (ap counted f);
-      text-after = sym (ap (λ (x : Outcome Table). textAfter x text) f);
-      sections-after = sym (ap (λ (x : Outcome Table). sectionsAfter x sections) f);
-      entries-after = sym (ap (λ (x : Outcome Table). entriesAfter x entries) f);
+      left = table-kept o (numberOf k) (placeOf k) f text sections entries;
     }
 
 -- ---- by way of buffers of its own
@@ -82,15 +86,17 @@ module _ (o : Outcome Table) (d text : Bytes) (e sections g entries : List ℕ) 
       let y : 5 * k ≡ length (entryNumbers (h .table .events)) = omega (arith, entry-count, entries-length 0 (h .table .events)) in
       record {
         answer = rw (text-count, section-count, entry-count) (sym (ap counted (h .outcome)));
-        text-after =
-            front-copied (textOf (h .table .events)) d text a a' n (h .holds .text-is) text-count (omega (arith, counts-fit .0)) pa
-            ∙ sym (ap (λ (z : Outcome Table). textAfter z a) (h .outcome));
-        sections-after =
-            front-copied (sectionNumbers (h .table .events)) e sections b b' (2 * m) (h .holds .sections-are) x (omega (arith, counts-fit .1)) pb
-            ∙ sym (ap (λ (z : Outcome Table). sectionsAfter z b) (h .outcome));
-        entries-after =
-            front-copied (entryNumbers (h .table .events)) g entries c c' (5 * k) (h .holds .entries-are) y (omega (arith, counts-fit .2)) pc
-            ∙ sym (ap (λ (z : Outcome Table). entriesAfter z c) (h .outcome));
+        left = record {
+          text-after =
+              front-copied (textOf (h .table .events)) d text a a' n (h .holds .text-is) text-count (omega (arith, counts-fit .0)) pa
+              ∙ sym (ap (λ (z : Outcome Table). textAfter z a) (h .outcome));
+          sections-after =
+              front-copied (sectionNumbers (h .table .events)) e sections b b' (2 * m) (h .holds .sections-are) x (omega (arith, counts-fit .1)) pb
+              ∙ sym (ap (λ (z : Outcome Table). sectionsAfter z b) (h .outcome));
+          entries-after =
+              front-copied (entryNumbers (h .table .events)) g entries c c' (5 * k) (h .holds .entries-are) y (omega (arith, counts-fit .2)) pc
+              ∙ sym (ap (λ (z : Outcome Table). entriesAfter z c) (h .outcome));
+        };
       }
 
 -- ---- the whole file

@@ -78,13 +78,17 @@ abbrev pub entriesAfter : Outcome Table → List ℕ → List ℕ
 entriesAfter (accepted t) d = filled (entryNumbers (t .events)) d
 entriesAfter (refused n p) d = d
 
--- what a call answers and leaves in the three buffers, where this is the outcome
-pub record ReadLeaves (o : Outcome Table) (text : Bytes) (sections entries : List ℕ)
-    (r : ReadAnswer) (text' : Bytes) (sections' entries' : List ℕ) : Type 0 where
-  pub answer : readMeans r ≡ counted o
+-- what a call leaves in the three buffers, where this is the outcome
+pub record TableLeft (o : Outcome Table) (text : Bytes) (sections entries : List ℕ) (text' : Bytes) (sections' entries' : List ℕ) : Type 0 where
   pub text-after : text' ≡ textAfter o text
   pub sections-after : sections' ≡ sectionsAfter o sections
   pub entries-after : entries' ≡ entriesAfter o entries
+
+-- and what it answers
+pub record ReadLeaves (o : Outcome Table) (text : Bytes) (sections entries : List ℕ)
+    (r : ReadAnswer) (text' : Bytes) (sections' entries' : List ℕ) : Type 0 where
+  pub answer : readMeans r ≡ counted o
+  pub left : TableLeft o text sections entries text' sections' entries'
 
 -- 1 before everything: the buffers have at least 65,535 bytes, 128 numbers and 2,560 numbers
 unfoldable pub readIn : (textSize sectionsSize entriesSize : ℕ) → Bytes → Outcome Table

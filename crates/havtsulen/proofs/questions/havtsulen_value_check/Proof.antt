@@ -2,14 +2,14 @@
 use native.Mathlib.Omega.{arith}
 use denote.Ref.{now}
 use Rattle.lookup.specs.Decoding.{lent}
-use Rattle.havtsulen.proofs.QuestionCalls.{part-short, part-accepted, part-refused}
+use Rattle.havtsulen.proofs.QuestionCalls.{check-short, check-accepted, check-refused}
 use borrow.Author.Needs.{needs}
 use Rattle.havtsulen.proofs.questions.havtsulen_value_check.Statement.{statement}
 use Rattle.havtsulen.proofs.questions.havtsulen_value_check.Tie as tie
 
 returns : tie.Need-returns
 returns c = let a = c .before .before .before .before .before .args in
-    part-short (lent (now (a .text)) (now (a .sections)) (a .section-count) (now (a .entries)) (a .entry-count)) (a .index) (now (a .report)) (omega (arith, c .if1 .taken))
+    check-short (lent (now (a .text)) (now (a .sections)) (a .section-count) (now (a .entries)) (a .entry-count)) (a .index) (now (a .report)) (omega (arith, c .if1 .taken))
 
 value-check-requires : tie.Need-value-check-requires
 value-check-requires c κs = search needs
@@ -37,14 +37,14 @@ same-length c = search needs
 
 returns-2 : tie.Need-returns-2
 returns-2 c = let p = c .before .before in let x = p .before .before .before in let k = x .before .before in let e = k .before in let a = e .before .before .before .before .before .args in
-    part-accepted (lent (now (a .text)) (now (a .sections)) (a .section-count) (now (a .entries)) (a .entry-count)) (a .index) (now (a .report)) (e .if1 .left) (k .value-check .result) (k .value-check .ensures) _ _ _ _ (x .start .given .1) (p .reply .ensures)
+    check-accepted (lent (now (a .text)) (now (a .sections)) (a .section-count) (now (a .entries)) (a .entry-count)) (a .index) (now (a .report)) (e .if1 .left) (k .value-check .result) (k .value-check .ensures) _ _ _ _ (x .start .given .1) (p .reply .ensures)
 
 same-length-2 : tie.Need-same-length-2
 same-length-2 c = search needs
 
 returns-3 : tie.Need-returns-3
 returns-3 c = let p = c .before .before in let q = p .before .before in let n = q .before in let x = n .before .before in let k = x .before .before in let e = k .before in let a = e .before .before .before .before .before .args in
-    part-refused (lent (now (a .text)) (now (a .sections)) (a .section-count) (now (a .entries)) (a .entry-count)) (a .index) (now (a .report)) (e .if1 .left) (k .value-check .result) (k .value-check .ensures) _ _ _ (x .e .given .1) _ _ (n .number .ensures) (q .place .ensures) (p .reply2 .ensures)
+    check-refused (lent (now (a .text)) (now (a .sections)) (a .section-count) (now (a .entries)) (a .entry-count)) (a .index) (now (a .report)) (e .if1 .left) (k .value-check .result) (k .value-check .ensures) _ _ _ (x .e .given .1) _ _ (n .number .ensures) (q .place .ensures) (p .reply2 .ensures)
 
 pub havtsulen-value-check-spec : {M : Type 1} → statement M
 havtsulen-value-check-spec =
