@@ -101,9 +101,9 @@ enum havtsulen_refusal {
     HAVTSULEN_NOT_UTF8 = 3,         /* line of the first byte after the longest well-formed start */
     HAVTSULEN_CONTROL_BYTE = 4,     /* line of the first one: 00 to 1F but tab and LF, and 7F; so CR, and every CR LF */
     HAVTSULEN_LINE_TOO_LONG = 5,    /* line on which the joined line, of over 4,096 bytes, starts; so for 6 to 10 */
-    HAVTSULEN_BAD_HEADER = 6,       /* line; a name has one or more bytes 20 to 7E, none of them [ or ] */
+    HAVTSULEN_BAD_HEADER = 6,       /* line (a name has one or more bytes 20 to 7E, none of them [ or ]) */
     HAVTSULEN_NO_EQUALS_SIGN = 7,   /* line */
-    HAVTSULEN_BAD_KEY = 8,          /* line; a key has one or more of A to Z, a to z, 0 to 9, -, _ and . */
+    HAVTSULEN_BAD_KEY = 8,          /* line (a key has one or more of A to Z, a to z, 0 to 9, -, _ and .) */
     HAVTSULEN_NO_SECTION = 9,       /* line */
     HAVTSULEN_TOO_MANY = 10,        /* line of the 65th section or of the 513th entry */
     /* of a list of items */

@@ -1,0 +1,184 @@
+//! `real_files FOLDER ..`: compares the proved library with the reference over the files of folders.
+//!
+//! Each regular file of at most 65,536 bytes is checked, read and made normal, and each value of an
+//! accepted file is split and taken as a boolean and as a time span. Exit status: 0 all alike, 1 a
+//! difference, 2 no folder given, or no file in it.
+
+use std::collections::{BTreeMap, HashSet};
+use std::env;
+use std::fs::{self, File, Metadata};
+use std::io::{self, Read};
+use std::os::unix::fs::MetadataExt;
+use std::path::{Path, PathBuf};
+use std::process::ExitCode;
+
+use compare::buffers::plain_case;
+use compare::calls::SIDES;
+use compare::case::Call;
+use compare::compare::compare;
+use compare::describe::describe;
+use compare::shrink::shorten_case;
+use havtsulen::Table;
+
+/// Bytes of the longest file that is looked at: one more than a file may have.
+const MOST: u64 = 65536;
+const FILE_CALLS: [Call; 3] = [Call::CheckFile, Call::Read, Call::NormalText];
+const VALUE_CALLS: [Call; 3] = [Call::Split, Call::Boolean, Call::Span];
+
+/// How the inputs of one call were answered, by number; 0 is accepted.
+#[derive(Default)]
+struct Numbers(BTreeMap<usize, usize>);
+
+impl Numbers {
+    fn print(&self, call: Call) {
+        let accepted = self.0.get(&0).copied().unwrap_or(0);
+        let refused = self.0.iter().filter(|(&number, _)| number != 0);
+        let refused: Vec<String> = refused
+            .map(|(number, times)| format!("{number}: {times}"))
+            .collect();
+        let inputs: usize = self.0.values().sum();
+        let refused = if refused.is_empty() {
+            "none".to_string()
+        } else {
+            refused.join(", ")
+        };
+        println!(
+            "{:<12} {inputs:>8} inputs, {accepted:>8} accepted; refused: {refused}",
+            call.name()
+        );
+    }
+}
+
+/// What was found so far.
+#[derive(Default)]
+struct Findings {
+    files: usize,
+    accepted: usize,
+    passed_over: usize,
+    differences: usize,
+    calls: BTreeMap<&'static str, Numbers>,
+}
+
+impl Findings {
+    /// Compares one call, and prints a difference with its shortened input.
+    fn compare(&mut self, path: &Path, call: Call, input: &[u8]) {
+        let case = plain_case(call, input);
+        if let Ok(outcome) = compare(&case, &SIDES) {
+            let numbers = self.calls.entry(call.name()).or_default();
+            let number = outcome
+                .number
+                .expect("an outcome without difference has a number");
+            *numbers.0.entry(number).or_default() += 1;
+            return;
+        }
+        self.differences += 1;
+        let short = shorten_case(&case, |case| compare(case, &SIDES).is_err());
+        println!("DIFFERENCE in {} of {}", call.name(), path.display());
+        if let Err(difference) = compare(&short, &SIDES) {
+            println!("{difference}\n{}", describe(&short));
+        }
+    }
+
+    fn examine(&mut self, path: &Path, file: &[u8]) {
+        self.files += 1;
+        for call in FILE_CALLS {
+            self.compare(path, call, file);
+        }
+        let Ok(table) = Table::read(file) else {
+            return;
+        };
+        self.accepted += 1;
+        for entry in table.entries() {
+            for call in VALUE_CALLS {
+                self.compare(path, call, entry.value);
+            }
+        }
+    }
+
+    /// Tells why a file or a folder is not looked at.
+    fn pass_over(&mut self, path: &Path, error: &io::Error) {
+        eprintln!("{}: {error}", path.display());
+        self.passed_over += 1;
+    }
+
+    fn print(&self) {
+        println!("{} files, {} of them accepted", self.files, self.accepted);
+        println!(
+            "{} passed over, {} differences",
+            self.passed_over, self.differences
+        );
+        for call in FILE_CALLS.iter().chain(&VALUE_CALLS) {
+            if let Some(numbers) = self.calls.get(call.name()) {
+                numbers.print(*call);
+            }
+        }
+    }
+}
+
+/// The bytes of a file, if they are not too many.
+fn contents(path: &Path) -> io::Result<Option<Vec<u8>>> {
+    let mut file = Vec::new();
+    File::open(path)?.take(MOST + 1).read_to_end(&mut file)?;
+    Ok((file.len() as u64 <= MOST).then_some(file))
+}
+
+/// The paths in a folder, by name.
+fn inside(folder: &Path) -> io::Result<Vec<PathBuf>> {
+    let paths: io::Result<Vec<PathBuf>> = fs::read_dir(folder)?
+        .map(|entry| entry.map(|entry| entry.path()))
+        .collect();
+    paths.map(|mut paths| {
+        paths.sort();
+        paths
+    })
+}
+
+/// Looks at a file, or answers what is in a folder.
+fn visit(path: &Path, about: &Metadata, findings: &mut Findings) -> io::Result<Vec<PathBuf>> {
+    if about.is_dir() {
+        return inside(path);
+    }
+    if about.is_file() && about.len() <= MOST {
+        if let Some(file) = contents(path)? {
+            findings.examine(path, &file);
+        }
+    }
+    Ok(Vec::new())
+}
+
+/// Walks over files and folders, also behind symbolic links, each once however many paths it has.
+fn walk(start: Vec<PathBuf>) -> Findings {
+    let mut findings = Findings::default();
+    let mut seen = HashSet::new();
+    let mut left = start;
+    left.reverse();
+    while let Some(path) = left.pop() {
+        let inside = fs::metadata(&path).and_then(|about| {
+            if seen.insert((about.dev(), about.ino())) {
+                visit(&path, &about, &mut findings)
+            } else {
+                Ok(Vec::new())
+            }
+        });
+        match inside {
+            Ok(paths) => left.extend(paths.into_iter().rev()),
+            Err(error) => findings.pass_over(&path, &error),
+        }
+    }
+    findings
+}
+
+fn main() -> ExitCode {
+    let folders: Vec<PathBuf> = env::args_os().skip(1).map(PathBuf::from).collect();
+    if folders.is_empty() {
+        eprintln!("usage: real_files FOLDER ..");
+        return ExitCode::from(2);
+    }
+    let findings = walk(folders);
+    findings.print();
+    if findings.files == 0 {
+        eprintln!("no file was compared");
+        return ExitCode::from(2);
+    }
+    ExitCode::from(u8::from(findings.differences > 0))
+}

@@ -1,0 +1,27 @@
+//! Compares the proved library with the reference: generated inputs, and real files.
+//!
+//! A [`case::Case`] is one call with all that is lent to it. [`compare::compare`] makes the call through
+//! the C interface, through the safe wrapper and in the reference, each on a copy, and compares what they
+//! leave. [`run::run`] does so for many cases; where two sides differ it shortens the input first.
+#![deny(unsafe_op_in_unsafe_fn, missing_docs)]
+
+pub mod buffers;
+pub mod calls;
+pub mod case;
+pub mod compare;
+pub mod counts;
+pub mod describe;
+pub mod faults;
+pub mod files;
+pub mod kinds;
+pub mod limits;
+pub mod lists;
+pub mod mutate;
+pub mod properties;
+pub mod random;
+pub mod run;
+pub mod shrink;
+pub mod tables;
+pub mod texts;
+pub mod utf8;
+pub mod values;

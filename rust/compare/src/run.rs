@@ -1,0 +1,185 @@
+//! Runs many cases on all cores, and tells the first failure.
+
+use std::env;
+use std::fmt::Display;
+use std::num::NonZero;
+use std::str::FromStr;
+use std::sync::atomic::{AtomicBool, Ordering};
+use std::thread;
+
+use crate::calls::Side;
+use crate::case::Case;
+use crate::compare::{compare, Difference};
+use crate::counts::Counts;
+use crate::describe::describe;
+use crate::kinds::{Drawn, DRAWN, LISTED};
+use crate::random::Random;
+use crate::shrink::shorten_case;
+
+/// How many inputs are drawn where HAVTSULEN_CASES is not set.
+pub const DEFAULT_CASES: usize = 1_000_000;
+const DEFAULT_SEED: u64 = 2026;
+
+/// What is run.
+#[derive(Clone, Copy, Debug)]
+pub struct Plan {
+    /// The seed of the whole run (HAVTSULEN_SEED).
+    pub seed: u64,
+    /// How many inputs are drawn (HAVTSULEN_CASES); the lists come on top.
+    pub cases: usize,
+    /// The one case to run, by its index (HAVTSULEN_ONLY).
+    pub only: Option<usize>,
+}
+
+impl Plan {
+    /// The plan that the environment sets.
+    pub fn from_environment() -> Plan {
+        Plan {
+            seed: setting("HAVTSULEN_SEED").unwrap_or(DEFAULT_SEED),
+            cases: setting("HAVTSULEN_CASES").unwrap_or(DEFAULT_CASES),
+            only: setting("HAVTSULEN_ONLY"),
+        }
+    }
+
+    /// How many cases there are in all.
+    pub fn total(&self) -> usize {
+        self.cases + LISTED.iter().map(|list| list.count).sum::<usize>()
+    }
+}
+
+/// A number in the environment. Anything else there is a mistake of the caller.
+fn setting<T: FromStr<Err: Display>>(name: &str) -> Option<T> {
+    let text = env::var(name).ok()?;
+    Some(
+        text.parse()
+            .unwrap_or_else(|error| panic!("{name}={text}: {error}")),
+    )
+}
+
+/// A case of the run.
+pub struct Planned {
+    /// The kind of input.
+    pub kind: &'static str,
+    /// The case's own seed.
+    pub seed: u64,
+    /// The case.
+    pub case: Case,
+}
+
+/// A kind of drawn inputs, by their weights.
+fn pick_kind(random: &mut Random) -> &'static Drawn {
+    let mut left = random.below(DRAWN.iter().map(|kind| kind.weight).sum());
+    for kind in &DRAWN {
+        if left < kind.weight {
+            return kind;
+        }
+        left -= kind.weight;
+    }
+    unreachable!("the number is below the sum of the weights")
+}
+
+/// The case with this index: drawn ones first, and then the lists.
+pub fn planned(plan: &Plan, index: usize) -> Planned {
+    let seed = Random::new(plan.seed ^ Random::new(index as u64).bits()).bits();
+    let mut random = Random::new(seed);
+    if index < plan.cases {
+        let kind = pick_kind(&mut random);
+        return Planned {
+            kind: kind.name,
+            seed,
+            case: (kind.make)(&mut random),
+        };
+    }
+    let mut left = index - plan.cases;
+    for list in &LISTED {
+        if left < list.count {
+            return Planned {
+                kind: list.name,
+                seed,
+                case: (list.make)(left, &mut random),
+            };
+        }
+        left -= list.count;
+    }
+    panic!("there is no case {index}");
+}
+
+/// Runs one case, and counts it.
+fn run_case(plan: &Plan, index: usize, sides: &[Side], counts: &mut Counts) -> Result<(), String> {
+    let planned = planned(plan, index);
+    match compare(&planned.case, sides) {
+        Ok(outcome) => {
+            let number = outcome
+                .number
+                .expect("an outcome without difference has a number");
+            counts.add(planned.kind, planned.case.call, number);
+            Ok(())
+        }
+        Err(difference) => Err(failure(plan, index, &planned, sides, difference)),
+    }
+}
+
+/// A failure in words: how to run it again, and the shortened case with its answers.
+fn failure(
+    plan: &Plan,
+    index: usize,
+    planned: &Planned,
+    sides: &[Side],
+    difference: Difference,
+) -> String {
+    let short = shorten_case(&planned.case, |case| compare(case, sides).is_err());
+    let difference = compare(&short, sides).err().unwrap_or(difference);
+    format!(
+        "HAVTSULEN_SEED={} HAVTSULEN_CASES={} HAVTSULEN_ONLY={index}: case seed {}, {}\n\
+         call {}\n{difference}\n{}",
+        plan.seed,
+        plan.cases,
+        planned.seed,
+        planned.kind,
+        planned.case.call.name(),
+        describe(&short),
+    )
+}
+
+/// Runs each `step`th case from `first` on, until one fails.
+fn run_some(
+    plan: &Plan,
+    sides: &[Side],
+    (first, step): (usize, usize),
+    stop: &AtomicBool,
+) -> Result<Counts, String> {
+    let mut counts = Counts::default();
+    for index in (first..plan.total()).step_by(step) {
+        if stop.load(Ordering::Relaxed) {
+            break;
+        }
+        if let Err(failure) = run_case(plan, index, sides, &mut counts) {
+            stop.store(true, Ordering::Relaxed);
+            return Err(failure);
+        }
+    }
+    Ok(counts)
+}
+
+/// Runs the plan: the first side is compared with the others.
+pub fn run(plan: &Plan, sides: &[Side]) -> Result<Counts, String> {
+    let mut counts = Counts::default();
+    if let Some(index) = plan.only {
+        return run_case(plan, index, sides, &mut counts).map(|()| counts);
+    }
+    let threads = thread::available_parallelism().map_or(1, NonZero::get);
+    let stop = AtomicBool::new(false);
+    let results: Vec<Result<Counts, String>> = thread::scope(|scope| {
+        let stop = &stop;
+        let start = |first| scope.spawn(move || run_some(plan, sides, (first, threads), stop));
+        let running: Vec<_> = (0..threads).map(start).collect();
+        running
+            .into_iter()
+            .map(|thread| thread.join().expect("a thread ends"))
+            .collect()
+    });
+    for result in results {
+        counts.merge(&result?);
+    }
+    Ok(counts)
+}

@@ -1,0 +1,183 @@
+//! Tables for look-up: read from files, drawn by hand, and damaged.
+
+use havtsulen::{ENTRY_NUMBERS, SECTION_NUMBERS, TEXT_BYTES};
+
+use crate::buffers::text_case;
+use crate::case::{Call, Case};
+use crate::files::grammar;
+use crate::random::Random;
+
+/// A case of look-up with an empty table.
+fn question(random: &mut Random) -> Case {
+    let call = random.pick(&[Call::Find, Call::Find, Call::Value, Call::ValueCheck]);
+    let which = random.pick(&[0, 0, 1, 1, 2, usize::MAX]);
+    Case {
+        which,
+        ..text_case(random, call, Vec::new())
+    }
+}
+
+/// The part of the text with this record; nothing where it points outside.
+fn part<'a>(text: &'a [u8], record: &[usize]) -> &'a [u8] {
+    let rest = text.get(record[0]..).unwrap_or(b"");
+    rest.get(..record[1]).unwrap_or(b"")
+}
+
+/// Asks for an entry that is there, or for parts of two entries, or for another name.
+fn ask(random: &mut Random, case: &mut Case) {
+    case.index = match random.below(8) {
+        0 => random.pick(&[case.entry_count, usize::MAX, case.entry_count + 1]),
+        _ => random.below(case.entry_count.max(1)),
+    };
+    if case.entry_count == 0 {
+        return;
+    }
+    let [first, second] = [(); 2].map(|()| 5 * random.below(case.entry_count));
+    let section = 2 * case.entries[first];
+    case.section = part(&case.text, &case.sections[section..]).to_vec();
+    let key = if random.one_in(6) { second } else { first };
+    case.key = part(&case.text, &case.entries[key + 1..]).to_vec();
+    match random.below(12) {
+        0 => case.key.push(b'x'),
+        1 => drop(case.section.pop()),
+        _ => {}
+    }
+}
+
+/// A table as the reader leaves it, in buffers of its size and a little more.
+fn from_file(random: &mut Random) -> Case {
+    let file = grammar(random);
+    let mut case = question(random);
+    let mut text = random.bytes(TEXT_BYTES);
+    let mut sections = random.numbers(SECTION_NUMBERS);
+    let mut entries = random.numbers(ENTRY_NUMBERS);
+    let read = reference::read(&file, &mut text, &mut sections, &mut entries);
+    let Ok(counts) = read else {
+        return by_hand(random);
+    };
+    text.truncate(counts.text + random.below(20));
+    sections.truncate(2 * counts.sections + random.below(5));
+    entries.truncate(5 * counts.entries + random.below(8));
+    (case.section_count, case.entry_count) = (counts.sections, counts.entries);
+    (case.text, case.sections, case.entries) = (text, sections, entries);
+    case
+}
+
+/// A record inside a text of this length.
+fn record(random: &mut Random, length: usize) -> [usize; 2] {
+    let start = random.between(0, length);
+    let most = (length - start).min(3);
+    [start, random.between(0, most)]
+}
+
+/// A small table of overlapping parts of a text of two letters: names and keys often are the same.
+fn by_hand(random: &mut Random) -> Case {
+    let mut case = question(random);
+    let length = random.between(0, 16);
+    case.text = random.word(b"ab", length);
+    case.section_count = random.between(1, 4);
+    case.entry_count = random.between(0, 9);
+    for _ in 0..case.section_count {
+        case.sections.extend(record(random, length));
+    }
+    for _ in 0..case.entry_count {
+        case.entries.push(random.below(case.section_count));
+        case.entries.extend(record(random, length));
+        case.entries.extend(record(random, length));
+    }
+    case
+}
+
+fn any_table(random: &mut Random) -> Case {
+    let mut case = if random.one_in(3) {
+        from_file(random)
+    } else {
+        by_hand(random)
+    };
+    ask(random, &mut case);
+    case
+}
+
+/// A case with a sound table.
+pub fn drawn(random: &mut Random) -> Case {
+    any_table(random)
+}
+
+/// A number that may be out of place: at the edges of the buffers, or so large that sums wrap.
+fn odd_number(random: &mut Random, case: &Case) -> usize {
+    let length = case.text.len();
+    let (small, any) = (random.below(4), random.bits() as usize);
+    random.pick(&[
+        length,
+        length + 1,
+        length.saturating_sub(small),
+        case.section_count,
+        case.section_count.wrapping_sub(1),
+        usize::MAX,
+        usize::MAX - small,
+        usize::MAX - length,
+        usize::MAX / 2 + 1,
+        any,
+    ])
+}
+
+/// A count that may pass its buffer of records of this size, also by wrapping.
+fn odd_count(random: &mut Random, numbers: usize, size: usize) -> usize {
+    let (small, any) = (random.below(3), random.bits() as usize);
+    random.pick(&[
+        numbers / size,
+        numbers / size + 1,
+        numbers,
+        small,
+        usize::MAX - small,
+        usize::MAX / size + small,
+        usize::MAX / 2 + 1,
+        any,
+    ])
+}
+
+/// A record whose sum wraps to a place inside the text.
+fn wrap_record(random: &mut Random, record: &mut [usize]) {
+    record[0] = usize::MAX - random.below(20);
+    record[1] = (usize::MAX - record[0]) + 1 + random.below(3);
+}
+
+fn damage(random: &mut Random, case: &mut Case) {
+    let odd = odd_number(random, case);
+    let (sections, entries) = (case.sections.len(), case.entries.len());
+    match random.below(8) {
+        0 | 1 if sections > 0 => case.sections[random.below(sections)] = odd,
+        2 | 3 if entries > 0 => case.entries[random.below(entries)] = odd,
+        4 if sections > 1 => wrap_record(random, &mut case.sections[..2]),
+        5 if entries > 4 => {
+            let field = random.pick(&[1, 3]);
+            wrap_record(random, &mut case.entries[field..]);
+        }
+        6 => case.section_count = odd_count(random, sections, 2),
+        7 => case.entry_count = odd_count(random, entries, 5),
+        _ => cut(random, case),
+    }
+}
+
+/// Shortens one of the buffers.
+fn cut(random: &mut Random, case: &mut Case) {
+    let less = random.between(1, 3);
+    match random.below(3) {
+        0 => case.text.truncate(case.text.len().saturating_sub(less)),
+        1 => case
+            .sections
+            .truncate(case.sections.len().saturating_sub(less)),
+        _ => case
+            .entries
+            .truncate(case.entries.len().saturating_sub(less)),
+    }
+}
+
+/// A case with a table that was damaged once or twice.
+pub fn damaged(random: &mut Random) -> Case {
+    let mut case = any_table(random);
+    for _ in 0..random.between(1, 2) {
+        damage(random, &mut case);
+    }
+    case
+}
