@@ -4,7 +4,7 @@ use Prim.Native.Nat.{ℕ, _≤_, _<_}
 use mathlib.Core.List.{List}
 use lib.ListN.{length}
 use Rattle.lines.specs.Bytes.{Bytes}
-use Rattle.lines.specs.Answers.{Outcome, accepted, refused}
+use Rattle.lines.specs.Answers.{Outcome, accepted}
 use Rattle.lines.specs.Answers as file
 use Rattle.lines.specs.Utf8.{longestStart}
 use Rattle.lines.specs.Files.{checkedFile, checkMeans}

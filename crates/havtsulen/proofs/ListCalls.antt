@@ -4,7 +4,7 @@ use Prim.Native.Nat.{ℕ, _≤_, _<_}
 use mathlib.Core.List.{List}
 use lib.ListN.{length}
 use Rattle.lines.specs.Bytes.{Bytes}
-use Rattle.lines.specs.Answers.{Outcome, accepted, refused}
+use Rattle.lines.specs.Answers.{Outcome}
 use Rattle.items.specs.Split.{splitIn}
 use Rattle.items.specs.Write.{writeIn}
 use Rattle.items.specs.Answers.{numberOf, placeOf, splitMeans, counted, ItemsLeft, Splits}

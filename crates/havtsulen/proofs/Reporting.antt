@@ -4,11 +4,11 @@ use Prim.Native.Nat.{ℕ, _≤_, _<_}
 use mathlib.Core.Bool.{false}
 use mathlib.Core.List.{List}
 use lib.ListN.{length}
-use lib.Dec.{ltb, eqb}
+use lib.Dec.{eqb}
 use borrow.Author.Tests.{lt-ltb, le-ltb}
 use Rattle.lines.specs.Answers.{Outcome, accepted, refused}
 use Rattle.lines.specs.Buffers.{filled}
-use Rattle.havtsulen.specs.Reports.{isAccepted, four, reported, isShort, withReport, reportAfter, Reports}
+use Rattle.havtsulen.specs.Reports.{four, reported, isShort, withReport, reportAfter, Reports}
 use Rattle.havtsulen.specs.Steps.{Replies}
 
 -- ---- the report is judged before everything

@@ -5,7 +5,6 @@ use mathlib.Core.Bool.{Bool, cond}
 use mathlib.Core.List.{List}
 use lib.ListN.{length}
 use Rattle.lines.specs.Bytes.{Bytes}
-use Rattle.lines.specs.Answers.{accepted, refused}
 use Rattle.values.specs.Booleans.{booleanOf}
 use Rattle.values.specs.Spans.{spanOf}
 use Rattle.values.specs.Answers.{numberOf, placeOf, booleanMeans, spanMeans}
