@@ -232,7 +232,8 @@ size_t havtsulen_split(const uint8_t *text, size_t text_length, uint8_t *bytes, 
                        size_t ends_length, size_t *report, size_t report_length);
 
 /*
- * Writes items as a text that havtsulen_split gives back as the same items.
+ * Writes items as a text that havtsulen_split gives back as the same items. The text is printable ASCII, and may stand
+ * behind a key and = in a file as far as the line then has at most 4,096 bytes.
  * In:       bytes, the items one after another, of any length; ends, one number for each item, as havtsulen_split
  *           leaves them. ends_length is the number of items, not HAVTSULEN_ITEM_ENDS. Bytes behind the last end are no
  *           item.
