@@ -77,10 +77,10 @@ pub fn text_case(random: &mut Random, call: Call, text: Vec<u8>) -> Case {
     }
 }
 
-/// A call that takes a file: the check, the reader or the normal text.
+/// A call that takes a file: decoder, check, reader or normal text.
 pub fn file_case(random: &mut Random, call: Call, file: Vec<u8>) -> Case {
     let mut case = text_case(random, call, file);
-    if call != Call::CheckFile {
+    if matches!(call, Call::Read | Call::NormalText) {
         let stated = [TEXT_BYTES, SECTION_NUMBERS, ENTRY_NUMBERS];
         let [text, sections, entries] = stated.map(|stated| enough(random, stated));
         case.text = random.bytes(text);

@@ -49,7 +49,12 @@ const FILE: [Role; 32] = [
     (b"#", b"\n[A]\nK=1\n"),
     (b"[A]\nK=a\\\n;", b"\nb\n"),
 ];
-const FILE_CALLS: [Call; 3] = [Call::CheckFile, Call::Read, Call::NormalText];
+const FILE_CALLS: [Call; 4] = [
+    Call::WellFormedLength,
+    Call::CheckFile,
+    Call::Read,
+    Call::NormalText,
+];
 
 /// In a text to split.
 const SPLIT: [Role; 33] = [

@@ -61,8 +61,8 @@ fn put_table(
     (case.section_count, case.entry_count) = (sections, entries);
 }
 
-/// A large table that was drawn, mostly full, with few keys or many.
-fn any_table(random: &mut Random) -> Case {
+/// A case with a sound large table, mostly full, with few keys or many.
+pub fn drawn(random: &mut Random) -> Case {
     let mut case = question(random);
     let (some_sections, some_entries) = (random.between(1, SECTIONS), random.between(1, ENTRIES));
     let sections = random.pick(&[SECTIONS, SECTIONS, some_sections, 1]);
@@ -79,14 +79,9 @@ fn any_table(random: &mut Random) -> Case {
     case
 }
 
-/// A case with a sound large table.
-pub fn drawn(random: &mut Random) -> Case {
-    any_table(random)
-}
-
 /// A case with a damaged large table.
 pub fn damaged(random: &mut Random) -> Case {
-    let case = any_table(random);
+    let case = drawn(random);
     with_damage(random, case)
 }
 

@@ -137,13 +137,16 @@ pub fn shortened(case: &Case, sides: &[Side], difference: Difference) -> String 
     )
 }
 
+/// The index of a case that fails, and the failure in words.
+type Failure = (usize, String);
+
 /// Runs each `step`th case from `first` on, until one fails.
 fn run_some(
     plan: &Plan,
     sides: &[Side],
     (first, step): (usize, usize),
     stop: &AtomicBool,
-) -> Result<Counts, String> {
+) -> Result<Counts, Failure> {
     let mut counts = Counts::default();
     for index in (first..plan.total()).step_by(step) {
         if stop.load(Ordering::Relaxed) {
@@ -151,13 +154,13 @@ fn run_some(
         }
         if let Err(failure) = run_case(plan, index, sides, &mut counts) {
             stop.store(true, Ordering::Relaxed);
-            return Err(failure);
+            return Err((index, failure));
         }
     }
     Ok(counts)
 }
 
-/// Runs the plan: the first side is compared with the others.
+/// Runs the plan: the first side is compared with the others. Of several failures the earliest is told.
 pub fn run(plan: &Plan, sides: &[Side]) -> Result<Counts, String> {
     let mut counts = Counts::default();
     if let Some(index) = plan.only {
@@ -165,7 +168,7 @@ pub fn run(plan: &Plan, sides: &[Side]) -> Result<Counts, String> {
     }
     let threads = thread::available_parallelism().map_or(1, NonZero::get);
     let stop = AtomicBool::new(false);
-    let results: Vec<Result<Counts, String>> = thread::scope(|scope| {
+    let results: Vec<Result<Counts, Failure>> = thread::scope(|scope| {
         let stop = &stop;
         let start = |first| scope.spawn(move || run_some(plan, sides, (first, threads), stop));
         let running: Vec<_> = (0..threads).map(start).collect();
@@ -174,8 +177,15 @@ pub fn run(plan: &Plan, sides: &[Side]) -> Result<Counts, String> {
             .map(|thread| thread.join().expect("a thread ends"))
             .collect()
     });
+    let mut failures = Vec::new();
     for result in results {
-        counts.merge(&result?);
+        match result {
+            Ok(part) => counts.merge(&part),
+            Err(failure) => failures.push(failure),
+        }
     }
-    Ok(counts)
+    match failures.into_iter().min() {
+        Some((_, failure)) => Err(failure),
+        None => Ok(counts),
+    }
 }

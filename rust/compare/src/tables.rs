@@ -88,7 +88,8 @@ fn by_hand(random: &mut Random) -> Case {
     case
 }
 
-fn any_table(random: &mut Random) -> Case {
+/// A case with a sound table.
+pub fn drawn(random: &mut Random) -> Case {
     let mut case = if random.one_in(3) {
         from_file(random)
     } else {
@@ -96,11 +97,6 @@ fn any_table(random: &mut Random) -> Case {
     };
     ask(random, &mut case);
     case
-}
-
-/// A case with a sound table.
-pub fn drawn(random: &mut Random) -> Case {
-    any_table(random)
 }
 
 /// A number that may be out of place: at the edges of the buffers, or so large that sums wrap.
@@ -186,6 +182,6 @@ pub fn with_damage(random: &mut Random, mut case: Case) -> Case {
 
 /// A case with a damaged table.
 pub fn damaged(random: &mut Random) -> Case {
-    let case = any_table(random);
+    let case = drawn(random);
     with_damage(random, case)
 }
