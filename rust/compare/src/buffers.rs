@@ -1,20 +1,11 @@
-//! Cases from inputs: lent buffers of random size around the stated one, filled with random patterns.
+//! Cases from inputs: lent buffers of the stated size or a little more, filled with random patterns; and
+//! buffers that are too short.
 
 use havtsulen::{ENTRY_NUMBERS, ITEM_BYTES, ITEM_ENDS, OUT_BYTES, REPORT_NUMBERS};
 use havtsulen::{SECTION_NUMBERS, TEXT_BYTES, WRITE_BYTES};
 
 use crate::case::{Call, Case};
 use crate::random::Random;
-
-/// A report: mostly long enough, and then often longer.
-fn report(random: &mut Random) -> Vec<usize> {
-    let length = if random.one_in(20) {
-        random.below(REPORT_NUMBERS)
-    } else {
-        REPORT_NUMBERS + random.pick(&[0, 0, 0, 1, 2, 5])
-    };
-    random.numbers(length)
-}
 
 /// A length that is enough.
 fn enough(random: &mut Random, stated: usize) -> usize {
@@ -31,51 +22,76 @@ fn too_short(random: &mut Random, stated: usize) -> usize {
     }
 }
 
-/// Lengths of the buffers of one call: once in twelve one of them, or several, are too short.
-fn lengths<const N: usize>(random: &mut Random, stated: [usize; N]) -> [usize; N] {
-    let mut lengths = stated.map(|stated| enough(random, stated));
-    if random.one_in(12) {
-        let one = random.below(N);
-        for index in 0..N {
-            if index == one || random.one_in(3) {
-                lengths[index] = too_short(random, stated[index]);
-            }
+/// A buffer that a call writes to: the stated length, and how it is cut to another.
+type Written = (usize, fn(&mut Case, usize));
+
+/// The buffers that a call writes to, but for the report.
+fn written(call: Call) -> &'static [Written] {
+    const TABLE: [Written; 4] = [
+        (TEXT_BYTES, |case, length| case.text.truncate(length)),
+        (SECTION_NUMBERS, |case, length| {
+            case.sections.truncate(length)
+        }),
+        (ENTRY_NUMBERS, |case, length| case.entries.truncate(length)),
+        (OUT_BYTES, |case, length| case.out.truncate(length)),
+    ];
+    const ITEMS: [Written; 2] = [
+        (ITEM_BYTES, |case, length| case.bytes.truncate(length)),
+        (ITEM_ENDS, |case, length| case.ends.truncate(length)),
+    ];
+    const LIST: [Written; 1] = [(WRITE_BYTES, |case, length| case.out.truncate(length))];
+    match call {
+        Call::Read => &TABLE[..3],
+        Call::NormalText => &TABLE,
+        Call::Split => &ITEMS,
+        Call::Write => &LIST,
+        _ => &[],
+    }
+}
+
+/// Lends too little once in a while: a short report, and one short buffer or several.
+pub fn lend_too_little(random: &mut Random, case: &mut Case) {
+    if random.one_in(20) {
+        case.report.truncate(random.below(REPORT_NUMBERS));
+    }
+    let written = written(case.call);
+    if written.is_empty() || !random.one_in(12) {
+        return;
+    }
+    let one = random.below(written.len());
+    for (index, &(stated, cut)) in written.iter().enumerate() {
+        if index == one || random.one_in(3) {
+            cut(case, too_short(random, stated));
         }
     }
-    lengths
 }
 
 /// A call that takes a text alone.
 pub fn text_case(random: &mut Random, call: Call, text: Vec<u8>) -> Case {
+    let report = REPORT_NUMBERS + random.pick(&[0, 0, 0, 1, 2, 5]);
     Case {
         call,
         input: text,
-        report: report(random),
+        report: random.numbers(report),
         ..Case::default()
     }
 }
 
-/// A call that takes a file: the check, the reader or the normal text.
+/// A call that takes a file: decoder, check, reader or normal text.
 pub fn file_case(random: &mut Random, call: Call, file: Vec<u8>) -> Case {
-    if call == Call::CheckFile {
-        return text_case(random, call, file);
+    let mut case = text_case(random, call, file);
+    if matches!(call, Call::Read | Call::NormalText) {
+        let stated = [TEXT_BYTES, SECTION_NUMBERS, ENTRY_NUMBERS];
+        let [text, sections, entries] = stated.map(|stated| enough(random, stated));
+        case.text = random.bytes(text);
+        case.sections = random.numbers(sections);
+        case.entries = random.numbers(entries);
     }
-    let stated = [TEXT_BYTES, SECTION_NUMBERS, ENTRY_NUMBERS, OUT_BYTES];
-    let [text, sections, entries, out] = match call {
-        Call::NormalText => lengths(random, stated),
-        _ => {
-            let [text, sections, entries] =
-                lengths(random, [TEXT_BYTES, SECTION_NUMBERS, ENTRY_NUMBERS]);
-            [text, sections, entries, 0]
-        }
-    };
-    Case {
-        text: random.bytes(text),
-        sections: random.numbers(sections),
-        entries: random.numbers(entries),
-        out: random.bytes(out),
-        ..text_case(random, call, file)
+    if call == Call::NormalText {
+        let out = enough(random, OUT_BYTES);
+        case.out = random.bytes(out);
     }
+    case
 }
 
 /// One of the calls that take a file, most often one that reads it whole.
@@ -94,7 +110,7 @@ pub fn any_file_case(random: &mut Random, file: Vec<u8>) -> Case {
 
 /// A text to split.
 pub fn split_case(random: &mut Random, text: Vec<u8>) -> Case {
-    let [bytes, ends] = lengths(random, [ITEM_BYTES, ITEM_ENDS]);
+    let [bytes, ends] = [ITEM_BYTES, ITEM_ENDS].map(|stated| enough(random, stated));
     Case {
         bytes: random.bytes(bytes),
         ends: random.numbers(ends),
@@ -104,7 +120,7 @@ pub fn split_case(random: &mut Random, text: Vec<u8>) -> Case {
 
 /// Items to write.
 pub fn write_case(random: &mut Random, (bytes, ends): (Vec<u8>, Vec<usize>)) -> Case {
-    let [out] = lengths(random, [WRITE_BYTES]);
+    let out = enough(random, WRITE_BYTES);
     Case {
         bytes,
         ends,

@@ -2,7 +2,7 @@
 
 use havtsulen::raw;
 
-use crate::case::{Call, Case};
+use crate::case::{Call, Lent};
 
 /// Makes the call of a case: changes its buffers and its report, and returns the number.
 #[derive(Clone, Copy)]
@@ -10,7 +10,7 @@ pub struct Side {
     /// What it is called in reports.
     pub name: &'static str,
     /// Makes the call.
-    pub call: fn(&mut Case) -> usize,
+    pub call: fn(&mut Lent) -> usize,
 }
 
 /// The proved library, through its C interface.
@@ -31,30 +31,38 @@ pub const WRAPPER: Side = Side {
 /// The library, and what it is compared with.
 pub const SIDES: [Side; 3] = [LIBRARY, REFERENCE, WRAPPER];
 
-fn library(case: &mut Case) -> usize {
+fn library(case: &mut Lent) -> usize {
     match case.call {
         Call::Find | Call::Value | Call::ValueCheck => library_look_up(case),
         Call::Read | Call::NormalText => library_table(case),
         Call::Split | Call::Write => library_items(case),
-        call => library_text(call, &case.input, &mut case.report),
+        _ => library_text(case),
     }
 }
 
-fn library_text(call: Call, text: &[u8], report: &mut [usize]) -> usize {
-    let call = match call {
+fn library_text(case: &mut Lent) -> usize {
+    let Lent { input, report, .. } = case;
+    let call = match case.call {
         Call::WellFormedLength => raw::havtsulen_well_formed_length,
         Call::CheckFile => raw::havtsulen_check_file,
         Call::Boolean => raw::havtsulen_boolean,
         _ => raw::havtsulen_span,
     };
-    // SAFETY: pointers and lengths are those of live slices; the report is borrowed alone.
-    unsafe { call(text.as_ptr(), text.len(), report.as_mut_ptr(), report.len()) }
+    // SAFETY: pointers and lengths are those of the case's own buffers, borrowed alone.
+    unsafe {
+        call(
+            input.as_ptr(),
+            input.len(),
+            report.as_mut_ptr(),
+            report.len(),
+        )
+    }
 }
 
 #[rustfmt::skip]
-fn library_table(case: &mut Case) -> usize {
-    let Case { call, input, text, sections, entries, out, report, .. } = case;
-    // SAFETY: pointers and lengths are those of the case's own vectors, borrowed alone.
+fn library_table(case: &mut Lent) -> usize {
+    let Lent { call, input, text, sections, entries, out, report, .. } = case;
+    // SAFETY: pointers and lengths are those of the case's own buffers, borrowed alone.
     unsafe {
         match call {
             Call::Read => raw::havtsulen_read(
@@ -72,9 +80,9 @@ fn library_table(case: &mut Case) -> usize {
 }
 
 #[rustfmt::skip]
-fn library_items(case: &mut Case) -> usize {
-    let Case { call, input, bytes, ends, out, report, .. } = case;
-    // SAFETY: pointers and lengths are those of the case's own vectors, borrowed alone.
+fn library_items(case: &mut Lent) -> usize {
+    let Lent { call, input, bytes, ends, out, report, .. } = case;
+    // SAFETY: pointers and lengths are those of the case's own buffers, borrowed alone.
     unsafe {
         match call {
             Call::Split => raw::havtsulen_split(
@@ -90,14 +98,14 @@ fn library_items(case: &mut Case) -> usize {
 }
 
 #[rustfmt::skip]
-fn library_look_up(case: &mut Case) -> usize {
-    let Case { section, key, text, sections, entries, report, .. } = case;
+fn library_look_up(case: &mut Lent) -> usize {
+    let Lent { section, key, text, sections, entries, report, .. } = case;
     let (section_count, entry_count) = (case.section_count, case.entry_count);
     let value = match case.call {
         Call::Value => raw::havtsulen_value,
         _ => raw::havtsulen_value_check,
     };
-    // SAFETY: pointers and lengths are those of the case's own vectors, borrowed alone.
+    // SAFETY: pointers and lengths are those of the case's own buffers, borrowed alone.
     unsafe {
         match case.call {
             Call::Find => raw::havtsulen_find(
@@ -117,7 +125,7 @@ fn library_look_up(case: &mut Case) -> usize {
 type Answer = Result<[usize; havtsulen::REPORT_NUMBERS], (usize, usize)>;
 
 /// Makes a call that knows no report, and reports what it answers as the C interface does.
-fn reported(case: &mut Case, call: fn(&mut Case) -> Answer) -> usize {
+fn reported(case: &mut Lent, call: fn(&mut Lent) -> Answer) -> usize {
     if case.report.len() < havtsulen::REPORT_NUMBERS {
         return 1;
     }
@@ -140,14 +148,14 @@ macro_rules! rust_calls {
     ($module:ident, $library:ident, $refusal:expr) => {
         mod $module {
             use super::{place_in, reported, Answer};
-            use crate::case::{Call, Case};
+            use crate::case::{Call, Lent};
             use $library::Which;
 
-            pub fn call(case: &mut Case) -> usize {
+            pub fn call(case: &mut Lent) -> usize {
                 reported(case, answer)
             }
 
-            fn answer(case: &mut Case) -> Answer {
+            fn answer(case: &mut Lent) -> Answer {
                 match case.call {
                     Call::Find | Call::Value | Call::ValueCheck => look_up(case),
                     Call::Read | Call::NormalText | Call::Split | Call::Write => fill(case),
@@ -165,8 +173,8 @@ macro_rules! rust_calls {
                 number.map(|number| [number, 0, 0, 0]).map_err($refusal)
             }
 
-            fn fill(case: &mut Case) -> Answer {
-                let Case { input, text, sections, entries, bytes, ends, out, .. } = case;
+            fn fill(case: &mut Lent) -> Answer {
+                let Lent { input, text, sections, entries, bytes, ends, out, .. } = case;
                 let report = match case.call {
                     Call::Read => $library::read(input, text, sections, entries)
                         .map(|counts| [counts.text, counts.sections, counts.entries, 0]),
@@ -181,9 +189,9 @@ macro_rules! rust_calls {
             }
 
             #[rustfmt::skip]
-            fn look_up(case: &mut Case) -> Answer {
-                let Case { section, key, which, index, .. } = case;
-                let Case { text, sections, section_count, entries, entry_count, .. } = case;
+            fn look_up(case: &mut Lent) -> Answer {
+                let Lent { section, key, which, index, .. } = case;
+                let Lent { text, sections, section_count, entries, entry_count, .. } = case;
                 let which = if *which == 0 { Which::First } else { Which::Last };
                 let report = match case.call {
                     Call::Find => $library::find(

@@ -1,5 +1,7 @@
 //! One call with all that is lent to it.
 
+use crate::guarded::Guarded;
+
 /// The eleven calls.
 #[derive(Clone, Copy, Debug, Default, PartialEq, Eq)]
 #[allow(missing_docs)]
@@ -52,40 +54,43 @@ impl Call {
     }
 }
 
-/// A call and its arguments, as they are before it or after it. What the call does not take is empty.
+/// A call and its arguments. What the call does not take is empty.
 #[derive(Clone, Debug, Default, PartialEq, Eq)]
-pub struct Case {
+pub struct Case<B = Vec<u8>, N = Vec<usize>> {
     /// Which call.
     pub call: Call,
     /// The file; or the text to split or to judge.
-    pub input: Vec<u8>,
+    pub input: B,
     /// The section name to look up.
-    pub section: Vec<u8>,
+    pub section: B,
     /// The key to look up.
-    pub key: Vec<u8>,
+    pub key: B,
     /// 0 for the first entry, any other number for the last.
     pub which: usize,
     /// The index of the entry whose value is asked for.
     pub index: usize,
     /// The text buffer of a table.
-    pub text: Vec<u8>,
+    pub text: B,
     /// The sections of a table.
-    pub sections: Vec<usize>,
+    pub sections: N,
     /// How many sections are stated.
     pub section_count: usize,
     /// The entries of a table.
-    pub entries: Vec<usize>,
+    pub entries: N,
     /// How many entries are stated.
     pub entry_count: usize,
     /// The bytes of items.
-    pub bytes: Vec<u8>,
+    pub bytes: B,
     /// The ends of items.
-    pub ends: Vec<usize>,
+    pub ends: N,
     /// The normal text, or the text of a list.
-    pub out: Vec<u8>,
+    pub out: B,
     /// The report.
-    pub report: Vec<usize>,
+    pub report: N,
 }
+
+/// A case whose arguments are all guarded, as they are before the call or after it.
+pub type Lent = Case<Guarded<u8>, Guarded<usize>>;
 
 /// A field of a case that holds bytes: its name, how it is read and how it is changed.
 pub type Bytes = (
@@ -110,20 +115,62 @@ macro_rules! field {
     };
 }
 
-/// All fields that hold bytes.
-pub const BYTES: [Bytes; 6] = [
-    field!(input),
-    field!(section),
-    field!(key),
-    field!(text),
-    field!(bytes),
-    field!(out),
-];
+impl Lent {
+    /// All that holds bytes, with its name.
+    pub fn all_bytes(&self) -> [(&'static str, &Guarded<u8>); 6] {
+        [
+            ("input", &self.input),
+            ("section", &self.section),
+            ("key", &self.key),
+            ("text", &self.text),
+            ("bytes", &self.bytes),
+            ("out", &self.out),
+        ]
+    }
 
-/// All fields that hold numbers, but for the report.
-pub const NUMBERS: [Numbers; 3] = [field!(sections), field!(entries), field!(ends)];
+    /// All that holds numbers, but for the report.
+    pub fn all_numbers(&self) -> [(&'static str, &Guarded<usize>); 3] {
+        [
+            ("sections", &self.sections),
+            ("entries", &self.entries),
+            ("ends", &self.ends),
+        ]
+    }
+
+    /// The name of a buffer with a changed guard.
+    pub fn broken_guard(&self) -> Option<&'static str> {
+        let bytes = self.all_bytes().into_iter();
+        let numbers = self.all_numbers().into_iter();
+        bytes
+            .map(|(name, bytes)| (name, bytes.intact()))
+            .chain(numbers.map(|(name, numbers)| (name, numbers.intact())))
+            .chain([("report", self.report.intact())])
+            .find_map(|(name, intact)| (!intact).then_some(name))
+    }
+}
 
 impl Case {
+    /// A guarded copy.
+    pub fn lend(&self) -> Lent {
+        Case {
+            call: self.call,
+            input: Guarded::new(&self.input),
+            section: Guarded::new(&self.section),
+            key: Guarded::new(&self.key),
+            which: self.which,
+            index: self.index,
+            text: Guarded::new(&self.text),
+            sections: Guarded::new(&self.sections),
+            section_count: self.section_count,
+            entries: Guarded::new(&self.entries),
+            entry_count: self.entry_count,
+            bytes: Guarded::new(&self.bytes),
+            ends: Guarded::new(&self.ends),
+            out: Guarded::new(&self.out),
+            report: Guarded::new(&self.report),
+        }
+    }
+
     /// The fields of bytes that the call only reads.
     pub fn lent_bytes(&self) -> &'static [Bytes] {
         const INPUT: [Bytes; 1] = [field!(input)];

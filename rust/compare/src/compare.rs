@@ -4,7 +4,7 @@ use std::fmt;
 use std::panic::{catch_unwind, AssertUnwindSafe};
 
 use crate::calls::Side;
-use crate::case::{Bytes, Case, Numbers, BYTES, NUMBERS};
+use crate::case::{Case, Lent};
 use crate::properties;
 
 /// What a side has answered.
@@ -15,7 +15,7 @@ pub struct Outcome {
     /// The number; none where the side has panicked.
     pub number: Option<usize>,
     /// The case as the call has left it.
-    pub after: Case,
+    pub after: Lent,
 }
 
 impl fmt::Display for Outcome {
@@ -46,7 +46,7 @@ impl fmt::Display for Difference {
 }
 
 /// Makes the call of a case on a copy.
-fn run(before: &Case, side: Side) -> Outcome {
+fn run(before: &Lent, side: Side) -> Outcome {
     let mut after = before.clone();
     let number = catch_unwind(AssertUnwindSafe(|| (side.call)(&mut after))).ok();
     Outcome {
@@ -78,13 +78,20 @@ fn first_difference<T: PartialEq + fmt::Debug>(
 }
 
 /// The first difference between the buffers of two cases; the report is not one of them.
-fn buffer_difference(left: &Case, right: &Case) -> Option<String> {
-    let bytes = |(name, of, _): &Bytes| first_difference(name, of(left), of(right));
-    let numbers = |(name, of, _): &Numbers| first_difference(name, of(left), of(right));
-    BYTES
-        .iter()
-        .find_map(bytes)
-        .or_else(|| NUMBERS.iter().find_map(numbers))
+fn buffer_difference(left: &Lent, right: &Lent) -> Option<String> {
+    let mut bytes = left.all_bytes().into_iter().zip(right.all_bytes());
+    let mut numbers = left.all_numbers().into_iter().zip(right.all_numbers());
+    bytes
+        .find_map(|((name, left), (_, right))| first_difference(name, left, right))
+        .or_else(|| {
+            numbers.find_map(|((name, left), (_, right))| first_difference(name, left, right))
+        })
+}
+
+/// The buffer outside of which a side has written, in words.
+fn written_outside(outcome: &Outcome) -> Option<String> {
+    let name = outcome.after.broken_guard()?;
+    Some(format!("{name}: written outside by {}", outcome.side))
 }
 
 fn outcome_difference(left: &Outcome, right: &Outcome) -> Option<String> {
@@ -93,24 +100,26 @@ fn outcome_difference(left: &Outcome, right: &Outcome) -> Option<String> {
     }
     first_difference("report", &left.after.report, &right.after.report)
         .or_else(|| buffer_difference(&left.after, &right.after))
+        .or_else(|| written_outside(right))
 }
 
-/// What an outcome breaks by itself: a refused call changes no buffer, and an accepted one has its
-/// property.
-fn broken_rule(before: &Case, outcome: &Outcome) -> Option<String> {
-    match outcome.number {
+/// What an outcome breaks by itself: no call writes outside its buffers, a refused one changes none,
+/// and an accepted one has its property.
+fn broken_rule(before: &Lent, outcome: &Outcome) -> Option<String> {
+    written_outside(outcome).or_else(|| match outcome.number {
         None => Some("there is no number".to_string()),
         Some(0) => properties::broken(&outcome.after),
         Some(_) => buffer_difference(before, &outcome.after),
-    }
+    })
 }
 
 /// Compares the first side with each of the others, and with the rules that need no second side. The
 /// outcome that all share has a number.
 pub fn compare(before: &Case, sides: &[Side]) -> Result<Outcome, Difference> {
-    let first = run(before, sides[0]);
+    let before = before.lend();
+    let first = run(&before, sides[0]);
     for &side in &sides[1..] {
-        let other = run(before, side);
+        let other = run(&before, side);
         if let Some(what) = outcome_difference(&first, &other) {
             return Err(Difference {
                 what,
@@ -118,7 +127,7 @@ pub fn compare(before: &Case, sides: &[Side]) -> Result<Outcome, Difference> {
             });
         }
     }
-    match broken_rule(before, &first) {
+    match broken_rule(&before, &first) {
         Some(what) => Err(Difference {
             what,
             outcomes: vec![first],

@@ -1,4 +1,4 @@
-//! Files by the grammar of the rules, files with small changes, and files of few or of any bytes.
+//! Files by the grammar of the rules, files with small changes, and files of few bytes.
 
 use crate::buffers::any_file_case;
 use crate::case::Case;
@@ -204,13 +204,6 @@ pub fn few_bytes(random: &mut Random) -> Case {
     let length = random.between(0, 40);
     let start = random.pick(&[&b""[..], b"[a]\n", b"[a]\nb=", b"[a]\nb=\\\n"]);
     let file = [start, &random.word(MEANINGFUL, length)].concat();
-    any_file_case(random, file)
-}
-
-/// A case with any bytes.
-pub fn noise(random: &mut Random) -> Case {
-    let length = random.between(0, 60);
-    let file = random.bytes(length);
     any_file_case(random, file)
 }
 

@@ -2,7 +2,10 @@
 
 use crate::case::Case;
 use crate::random::Random;
-use crate::{faults, files, limits, lists, tables, texts, utf8, values};
+use crate::{
+    escapes, every_byte, faults, files, large, limits, lists, noise, tables, texts, units,
+};
+use crate::{utf8, values};
 
 /// A kind of drawn inputs.
 pub struct Drawn {
@@ -29,67 +32,59 @@ const fn drawn(name: &'static str, weight: usize, make: fn(&mut Random) -> Case)
 }
 
 /// All kinds of drawn inputs.
-pub static DRAWN: [Drawn; 23] = [
+pub static DRAWN: [Drawn; 29] = [
     drawn("files: grammar", 200, files::drawn),
     drawn("files: mutated", 70, files::mutated),
     drawn("files: one fault", 70, faults::one),
     drawn("files: several faults", 25, faults::several),
     drawn("files: limits", 30, limits::drawn),
     drawn("files: few bytes", 40, files::few_bytes),
-    drawn("files: any bytes", 10, files::noise),
+    drawn("files: any bytes", 10, noise::file),
     drawn("tables: sound", 90, tables::drawn),
     drawn("tables: damaged", 60, tables::damaged),
+    drawn("tables: large", 25, large::drawn),
+    drawn("tables: large, damaged", 10, large::damaged),
     drawn("split: lists", 90, texts::drawn),
     drawn("split: mutated", 40, texts::mutated),
     drawn("split: one fault", 40, texts::one_fault),
     drawn("split: several faults", 15, texts::several_faults),
     drawn("split: limits", 15, texts::at_limit),
     drawn("split: few bytes", 20, texts::few_bytes),
+    drawn("split: any bytes", 10, noise::split),
     drawn("write: lists", 80, lists::drawn),
     drawn("write: faults", 35, lists::faulty),
     drawn("write: limits", 20, lists::at_limit),
-    drawn("booleans", 25, values::boolean),
-    drawn("spans: grammar", 60, values::span),
+    drawn("write: any bytes", 10, noise::write),
+    drawn("booleans", 40, values::boolean),
+    drawn("booleans: any bytes", 2, noise::boolean),
+    drawn("spans: grammar", 110, values::span),
     drawn("spans: damaged", 30, values::damaged_span),
+    drawn("spans: any bytes", 2, noise::span),
     drawn("utf-8: characters", 30, utf8::drawn),
-    drawn("utf-8: any bytes", 10, utf8::noise),
+    drawn("utf-8: any bytes", 10, noise::decode),
 ];
 
+const fn listed(name: &'static str, count: usize, make: fn(usize, &mut Random) -> Case) -> Listed {
+    Listed { name, count, make }
+}
+
 /// All lists.
-pub static LISTED: [Listed; 7] = [
-    Listed {
-        name: "files: short, all",
-        count: files::SHORT_LISTED,
-        make: files::short_listed,
-    },
-    Listed {
-        name: "files: in a value, all",
-        count: files::BEHIND_LISTED,
-        make: files::behind_listed,
-    },
-    Listed {
-        name: "split: short, all",
-        count: texts::LISTED,
-        make: texts::listed,
-    },
-    Listed {
-        name: "write: every byte",
-        count: lists::LISTED,
-        make: lists::listed,
-    },
-    Listed {
-        name: "booleans: one byte off",
-        count: values::BOOLEAN_LISTED,
-        make: values::boolean_listed,
-    },
-    Listed {
-        name: "spans: short, all",
-        count: values::SPAN_LISTED,
-        make: values::span_listed,
-    },
-    Listed {
-        name: "utf-8: boundaries",
-        count: utf8::LISTED,
-        make: utf8::listed,
-    },
+#[rustfmt::skip]
+pub static LISTED: [Listed; 16] = [
+    listed("files: every byte", every_byte::FILES, every_byte::files),
+    listed("split: every byte", every_byte::SPLITS, every_byte::splits),
+    listed("booleans: every byte", every_byte::BOOLEANS, every_byte::booleans),
+    listed("spans: every byte", every_byte::SPANS, every_byte::spans),
+    listed("split: limits of escapes", escapes::LISTED, escapes::listed),
+    listed("spans: known words", units::KNOWN, units::known),
+    listed("spans: short words, all", units::SHORT, units::short),
+    listed("tables: large, all", large::LISTED, large::listed),
+    listed("tables: large, each damage", large::DAMAGED_LISTED, large::damaged_listed),
+    listed("files: short, all", files::SHORT_LISTED, files::short_listed),
+    listed("files: in a value, all", files::BEHIND_LISTED, files::behind_listed),
+    listed("split: short, all", texts::LISTED, texts::listed),
+    listed("write: every byte", lists::LISTED, lists::listed),
+    listed("booleans: one byte off", values::BOOLEAN_LISTED, values::boolean_listed),
+    listed("spans: short, all", values::SPAN_LISTED, values::span_listed),
+    listed("utf-8: boundaries", utf8::LISTED, utf8::listed),
 ];

@@ -2,10 +2,10 @@
 
 use havtsulen::Table;
 
-use crate::case::{Call, Case};
+use crate::case::{Call, Lent};
 
 /// What holds of an accepted call; otherwise what does not, in words.
-type Property = fn(&Case) -> Result<(), &'static str>;
+type Property = fn(&Lent) -> Result<(), &'static str>;
 
 fn property_of(call: Call) -> Option<Property> {
     match call {
@@ -24,7 +24,7 @@ pub fn judged(call: Call) -> bool {
 }
 
 /// The property that an accepted call of the library breaks; the case is as the call has left it.
-pub fn broken(after: &Case) -> Option<String> {
+pub fn broken(after: &Lent) -> Option<String> {
     let property = property_of(after.call)?;
     property(after).err().map(str::to_string)
 }
@@ -38,7 +38,7 @@ fn hold(holds: bool, property: &'static str) -> Result<(), &'static str> {
 }
 
 /// The standard library finds the same well-formed start.
-fn as_std_decodes(after: &Case) -> Result<(), &'static str> {
+fn as_std_decodes(after: &Lent) -> Result<(), &'static str> {
     let length = match std::str::from_utf8(&after.input) {
         Ok(text) => text.len(),
         Err(error) => error.valid_up_to(),
@@ -50,7 +50,7 @@ fn as_std_decodes(after: &Case) -> Result<(), &'static str> {
 }
 
 /// Entries that a table has are found: the first and the last of their section and key.
-fn entries_are_found(after: &Case) -> Result<(), &'static str> {
+fn entries_are_found(after: &Lent) -> Result<(), &'static str> {
     let table = Table::read(&after.input).map_err(|_| "the file is not read again")?;
     let all: Vec<_> = table.entries().collect();
     for entry in all.iter().take(4) {
@@ -83,7 +83,7 @@ fn by_section(table: &Table) -> Vec<Section<'_>> {
 }
 
 /// The normal text of a normal text is itself, and it holds what the file holds.
-fn normal_of_normal(after: &Case) -> Result<(), &'static str> {
+fn normal_of_normal(after: &Lent) -> Result<(), &'static str> {
     let normal = &after.out[..after.report[0]];
     let again = havtsulen::normal(normal);
     hold(
@@ -101,7 +101,7 @@ fn normal_of_normal(after: &Case) -> Result<(), &'static str> {
 }
 
 /// The items of a case, by their ends.
-fn items_of(case: &Case, count: usize) -> Vec<Vec<u8>> {
+fn items_of(case: &Lent, count: usize) -> Vec<Vec<u8>> {
     let starts = [0].into_iter().chain(case.ends.iter().copied());
     let parts = starts.zip(&case.ends[..count]);
     parts
@@ -110,14 +110,14 @@ fn items_of(case: &Case, count: usize) -> Vec<Vec<u8>> {
 }
 
 /// What was written is split into the items that were to be written.
-fn items_come_back(after: &Case) -> Result<(), &'static str> {
+fn items_come_back(after: &Lent) -> Result<(), &'static str> {
     let items = items_of(after, after.ends.len());
     let split = havtsulen::items(&after.out[..after.report[0]]);
     hold(split == Ok(items), "the written items do not come back")
 }
 
 /// Items that were split, written again and split again, are the same, if their text is not too long.
-fn written_and_split(after: &Case) -> Result<(), &'static str> {
+fn written_and_split(after: &Lent) -> Result<(), &'static str> {
     let items = items_of(after, after.report[0]);
     match havtsulen::list(&items) {
         Ok(text) => hold(

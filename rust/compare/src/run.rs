@@ -7,6 +7,7 @@ use std::str::FromStr;
 use std::sync::atomic::{AtomicBool, Ordering};
 use std::thread;
 
+use crate::buffers::lend_too_little;
 use crate::calls::Side;
 use crate::case::Case;
 use crate::compare::{compare, Difference};
@@ -78,19 +79,11 @@ fn pick_kind(random: &mut Random) -> &'static Drawn {
     unreachable!("the number is below the sum of the weights")
 }
 
-/// The case with this index: drawn ones first, and then the lists.
+/// The case with this index: the lists first, and then drawn ones.
 pub fn planned(plan: &Plan, index: usize) -> Planned {
     let seed = Random::new(plan.seed ^ Random::new(index as u64).bits()).bits();
     let mut random = Random::new(seed);
-    if index < plan.cases {
-        let kind = pick_kind(&mut random);
-        return Planned {
-            kind: kind.name,
-            seed,
-            case: (kind.make)(&mut random),
-        };
-    }
-    let mut left = index - plan.cases;
+    let mut left = index;
     for list in &LISTED {
         if left < list.count {
             return Planned {
@@ -101,7 +94,14 @@ pub fn planned(plan: &Plan, index: usize) -> Planned {
         }
         left -= list.count;
     }
-    panic!("there is no case {index}");
+    let kind = pick_kind(&mut random);
+    let mut case = (kind.make)(&mut random);
+    lend_too_little(&mut random, &mut case);
+    Planned {
+        kind: kind.name,
+        seed,
+        case,
+    }
 }
 
 /// Runs one case, and counts it.
@@ -115,31 +115,30 @@ fn run_case(plan: &Plan, index: usize, sides: &[Side], counts: &mut Counts) -> R
             counts.add(planned.kind, planned.case.call, number);
             Ok(())
         }
-        Err(difference) => Err(failure(plan, index, &planned, sides, difference)),
+        Err(difference) => Err(format!(
+            "HAVTSULEN_SEED={} HAVTSULEN_CASES={} HAVTSULEN_ONLY={index}: case seed {}, {}\n{}",
+            plan.seed,
+            plan.cases,
+            planned.seed,
+            planned.kind,
+            shortened(&planned.case, sides, difference),
+        )),
     }
 }
 
-/// A failure in words: how to run it again, and the shortened case with its answers.
-fn failure(
-    plan: &Plan,
-    index: usize,
-    planned: &Planned,
-    sides: &[Side],
-    difference: Difference,
-) -> String {
-    let short = shorten_case(&planned.case, |case| compare(case, sides).is_err());
+/// A difference in words: the shortened case with its answers.
+pub fn shortened(case: &Case, sides: &[Side], difference: Difference) -> String {
+    let short = shorten_case(case, |case| compare(case, sides).is_err());
     let difference = compare(&short, sides).err().unwrap_or(difference);
     format!(
-        "HAVTSULEN_SEED={} HAVTSULEN_CASES={} HAVTSULEN_ONLY={index}: case seed {}, {}\n\
-         call {}\n{difference}\n{}",
-        plan.seed,
-        plan.cases,
-        planned.seed,
-        planned.kind,
-        planned.case.call.name(),
-        describe(&short),
+        "call {}\n{difference}\n{}",
+        case.call.name(),
+        describe(&short)
     )
 }
+
+/// The index of a case that fails, and the failure in words.
+type Failure = (usize, String);
 
 /// Runs each `step`th case from `first` on, until one fails.
 fn run_some(
@@ -147,7 +146,7 @@ fn run_some(
     sides: &[Side],
     (first, step): (usize, usize),
     stop: &AtomicBool,
-) -> Result<Counts, String> {
+) -> Result<Counts, Failure> {
     let mut counts = Counts::default();
     for index in (first..plan.total()).step_by(step) {
         if stop.load(Ordering::Relaxed) {
@@ -155,13 +154,13 @@ fn run_some(
         }
         if let Err(failure) = run_case(plan, index, sides, &mut counts) {
             stop.store(true, Ordering::Relaxed);
-            return Err(failure);
+            return Err((index, failure));
         }
     }
     Ok(counts)
 }
 
-/// Runs the plan: the first side is compared with the others.
+/// Runs the plan: the first side is compared with the others. Of several failures the earliest is told.
 pub fn run(plan: &Plan, sides: &[Side]) -> Result<Counts, String> {
     let mut counts = Counts::default();
     if let Some(index) = plan.only {
@@ -169,7 +168,7 @@ pub fn run(plan: &Plan, sides: &[Side]) -> Result<Counts, String> {
     }
     let threads = thread::available_parallelism().map_or(1, NonZero::get);
     let stop = AtomicBool::new(false);
-    let results: Vec<Result<Counts, String>> = thread::scope(|scope| {
+    let results: Vec<Result<Counts, Failure>> = thread::scope(|scope| {
         let stop = &stop;
         let start = |first| scope.spawn(move || run_some(plan, sides, (first, threads), stop));
         let running: Vec<_> = (0..threads).map(start).collect();
@@ -178,8 +177,15 @@ pub fn run(plan: &Plan, sides: &[Side]) -> Result<Counts, String> {
             .map(|thread| thread.join().expect("a thread ends"))
             .collect()
     });
+    let mut failures = Vec::new();
     for result in results {
-        counts.merge(&result?);
+        match result {
+            Ok(part) => counts.merge(&part),
+            Err(failure) => failures.push(failure),
+        }
     }
-    Ok(counts)
+    match failures.into_iter().min() {
+        Some((_, failure)) => Err(failure),
+        None => Ok(counts),
+    }
 }

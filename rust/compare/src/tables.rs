@@ -7,8 +7,8 @@ use crate::case::{Call, Case};
 use crate::files::grammar;
 use crate::random::Random;
 
-/// A case of look-up with an empty table.
-fn question(random: &mut Random) -> Case {
+/// A question of look-up, with an empty table.
+pub fn question(random: &mut Random) -> Case {
     let call = random.pick(&[Call::Find, Call::Find, Call::Value, Call::ValueCheck]);
     let which = random.pick(&[0, 0, 1, 1, 2, usize::MAX]);
     Case {
@@ -24,7 +24,7 @@ fn part<'a>(text: &'a [u8], record: &[usize]) -> &'a [u8] {
 }
 
 /// Asks for an entry that is there, or for parts of two entries, or for another name.
-fn ask(random: &mut Random, case: &mut Case) {
+pub fn ask(random: &mut Random, case: &mut Case) {
     case.index = match random.below(8) {
         0 => random.pick(&[case.entry_count, usize::MAX, case.entry_count + 1]),
         _ => random.below(case.entry_count.max(1)),
@@ -64,7 +64,7 @@ fn from_file(random: &mut Random) -> Case {
 }
 
 /// A record inside a text of this length.
-fn record(random: &mut Random, length: usize) -> [usize; 2] {
+pub fn record(random: &mut Random, length: usize) -> [usize; 2] {
     let start = random.between(0, length);
     let most = (length - start).min(3);
     [start, random.between(0, most)]
@@ -88,7 +88,8 @@ fn by_hand(random: &mut Random) -> Case {
     case
 }
 
-fn any_table(random: &mut Random) -> Case {
+/// A case with a sound table.
+pub fn drawn(random: &mut Random) -> Case {
     let mut case = if random.one_in(3) {
         from_file(random)
     } else {
@@ -96,11 +97,6 @@ fn any_table(random: &mut Random) -> Case {
     };
     ask(random, &mut case);
     case
-}
-
-/// A case with a sound table.
-pub fn drawn(random: &mut Random) -> Case {
-    any_table(random)
 }
 
 /// A number that may be out of place: at the edges of the buffers, or so large that sums wrap.
@@ -148,10 +144,13 @@ fn damage(random: &mut Random, case: &mut Case) {
     match random.below(8) {
         0 | 1 if sections > 0 => case.sections[random.below(sections)] = odd,
         2 | 3 if entries > 0 => case.entries[random.below(entries)] = odd,
-        4 if sections > 1 => wrap_record(random, &mut case.sections[..2]),
+        4 if sections > 1 => {
+            let at = 2 * random.below(sections / 2);
+            wrap_record(random, &mut case.sections[at..]);
+        }
         5 if entries > 4 => {
-            let field = random.pick(&[1, 3]);
-            wrap_record(random, &mut case.entries[field..]);
+            let at = 5 * random.below(entries / 5) + random.pick(&[1, 3]);
+            wrap_record(random, &mut case.entries[at..]);
         }
         6 => case.section_count = odd_count(random, sections, 2),
         7 => case.entry_count = odd_count(random, entries, 5),
@@ -173,11 +172,16 @@ fn cut(random: &mut Random, case: &mut Case) {
     }
 }
 
-/// A case with a table that was damaged once or twice.
-pub fn damaged(random: &mut Random) -> Case {
-    let mut case = any_table(random);
+/// The case with its table damaged once or twice.
+pub fn with_damage(random: &mut Random, mut case: Case) -> Case {
     for _ in 0..random.between(1, 2) {
         damage(random, &mut case);
     }
     case
+}
+
+/// A case with a damaged table.
+pub fn damaged(random: &mut Random) -> Case {
+    let case = drawn(random);
+    with_damage(random, case)
 }

@@ -72,13 +72,6 @@ pub fn drawn(random: &mut Random) -> Case {
     text_case(random, call, text)
 }
 
-/// Any bytes.
-pub fn noise(random: &mut Random) -> Case {
-    let length = random.between(0, 24);
-    let text = random.bytes(length);
-    text_case(random, Call::WellFormedLength, text)
-}
-
 const SECOND: [u8; 12] = [
     0x00, 0x0a, 0x41, 0x7f, 0x80, 0x8f, 0x90, 0x9f, 0xa0, 0xbf, 0xc0, 0xff,
 ];

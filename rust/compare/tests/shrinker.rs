@@ -3,7 +3,7 @@
 
 use compare::buffers::plain_case;
 use compare::calls::{Side, LIBRARY, REFERENCE};
-use compare::case::{Call, Case};
+use compare::case::{Call, Case, Lent};
 use compare::compare::compare;
 use compare::describe::{describe, literal};
 use compare::run::{run, Plan};
@@ -16,7 +16,7 @@ fn holds_both(text: &[u8]) -> bool {
 }
 
 /// The reference, with a wrong answer where `wrong` holds.
-fn reference_but(wrong: bool, case: &mut Case) -> usize {
+fn reference_but(wrong: bool, case: &mut Lent) -> usize {
     if wrong {
         99
     } else {
@@ -78,7 +78,7 @@ fn a_run_ends_with_the_shortened_input() {
 
 #[test]
 fn a_list_is_shortened_item_by_item() {
-    fn wrong(case: &mut Case) -> usize {
+    fn wrong(case: &mut Lent) -> usize {
         let wrong = case.bytes.contains(&b'=') && case.ends.len() > 1;
         reference_but(wrong, case)
     }
@@ -99,7 +99,7 @@ fn a_list_is_shortened_item_by_item() {
 
 #[test]
 fn a_table_is_shortened_record_by_record() {
-    fn wrong(case: &mut Case) -> usize {
+    fn wrong(case: &mut Lent) -> usize {
         let mut records = case.entries.chunks(5);
         let wrong = records.any(|record| record == [1, 0, 1, 1, 2]);
         reference_but(wrong, case)
@@ -123,7 +123,7 @@ fn a_table_is_shortened_record_by_record() {
 }
 
 /// Changes of one byte or one number that a side may make wrongly.
-const CHANGES: [fn(&mut Case); 7] = [
+const CHANGES: [fn(&mut Lent); 7] = [
     |case| *case.text.last_mut().unwrap() ^= 1,
     |case| case.text[0] ^= 1,
     |case| *case.sections.last_mut().unwrap() ^= 1,
@@ -135,12 +135,12 @@ const CHANGES: [fn(&mut Case); 7] = [
 
 #[test]
 fn every_wrong_byte_and_number_is_found() {
-    fn changed<const N: usize>(case: &mut Case) -> usize {
+    fn changed<const N: usize>(case: &mut Lent) -> usize {
         let number = (REFERENCE.call)(case);
         CHANGES[N](case);
         number
     }
-    let changed: [fn(&mut Case) -> usize; 7] = [
+    let changed: [fn(&mut Lent) -> usize; 7] = [
         changed::<0>,
         changed::<1>,
         changed::<2>,
@@ -175,6 +175,38 @@ fn a_refused_call_that_writes_is_found() {
     };
     let case = plain_case(Call::Read, b"K=1\n");
     assert!(compare(&case, &[WRITING, WRITING]).is_err());
+}
+
+/// Writes next to buffers that are written, or only read: before them and behind them.
+const OUTSIDE: [fn(&mut Lent) -> *mut u8; 4] = [
+    |case| case.out.as_mut_ptr().wrapping_sub(1),
+    |case| case.out.as_mut_ptr().wrapping_add(case.out.len()),
+    |case| case.input.as_mut_ptr().wrapping_sub(16),
+    |case| case.sections.as_mut_ptr().wrapping_add(128).cast(),
+];
+
+#[test]
+fn a_write_outside_is_found() {
+    fn outside<const N: usize>(case: &mut Lent) -> usize {
+        let number = (REFERENCE.call)(case);
+        // SAFETY: the guard is part of the same allocation.
+        unsafe { *OUTSIDE[N](case) ^= 1 };
+        number
+    }
+    let calls = [outside::<0>, outside::<1>, outside::<2>, outside::<3>];
+    let names = ["out", "out", "input", "sections"];
+    let case = plain_case(Call::NormalText, b"[A]\nK=1\n");
+    for (call, name) in calls.into_iter().zip(names) {
+        let side = Side {
+            name: "outside",
+            call,
+        };
+        for sides in [[LIBRARY, side], [side, side]] {
+            let difference = compare(&case, &sides).unwrap_err().to_string();
+            let expected = format!("{name}: written outside by outside");
+            assert!(difference.contains(&expected), "{difference}");
+        }
+    }
 }
 
 #[test]

@@ -35,6 +35,13 @@
 //! [`Error::ShortBuffer`], a longer one is fine. A refused call changes no buffer, and an accepted one
 //! only the parts that its answer names.
 //!
+//! # What it needs
+//!
+//! Rust 1.82 or later, and the archive `libhavtsulen.a`, which has to be there before the crate is
+//! built: `rt staticlib havtsulen` in the root folder of the repository makes it, or HAVTSULEN_LIB_DIR
+//! names the folder that has it. The archive is for x86-64 Linux, and so is every function here, [`items`]
+//! and [`list`] too: each calls it.
+//!
 //! # Stack
 //!
 //! A call needs at most 128 KiB of stack ([`STACK_BYTES`]). The main thread and the threads of

@@ -18,7 +18,10 @@ use crate::{TEXT_BYTES, WRITE_BYTES};
 /// assert_eq!(table.last(b"Link", b"Wait"), Err(havtsulen::Error::NoEntry));
 /// # Ok::<(), havtsulen::Error>(())
 /// ```
-#[derive(Debug, Clone, PartialEq, Eq)]
+///
+/// Tables have no `==`: two files that hold the same may have their entries in another order. Compare
+/// their [`normal`] texts instead.
+#[derive(Debug, Clone)]
 pub struct Table {
     text: Box<[u8]>,
     sections: Box<[usize]>,

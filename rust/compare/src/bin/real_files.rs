@@ -16,8 +16,7 @@ use compare::buffers::plain_case;
 use compare::calls::SIDES;
 use compare::case::Call;
 use compare::compare::compare;
-use compare::describe::describe;
-use compare::shrink::shorten_case;
+use compare::run::shortened;
 use havtsulen::Table;
 
 /// Bytes of the longest file that is looked at: one more than a file may have.
@@ -63,19 +62,19 @@ impl Findings {
     /// Compares one call, and prints a difference with its shortened input.
     fn compare(&mut self, path: &Path, call: Call, input: &[u8]) {
         let case = plain_case(call, input);
-        if let Ok(outcome) = compare(&case, &SIDES) {
-            let numbers = self.calls.entry(call.name()).or_default();
-            let number = outcome
-                .number
-                .expect("an outcome without difference has a number");
-            *numbers.0.entry(number).or_default() += 1;
-            return;
-        }
-        self.differences += 1;
-        let short = shorten_case(&case, |case| compare(case, &SIDES).is_err());
-        println!("DIFFERENCE in {} of {}", call.name(), path.display());
-        if let Err(difference) = compare(&short, &SIDES) {
-            println!("{difference}\n{}", describe(&short));
+        match compare(&case, &SIDES) {
+            Ok(outcome) => {
+                let numbers = self.calls.entry(call.name()).or_default();
+                let number = outcome
+                    .number
+                    .expect("an outcome without difference has a number");
+                *numbers.0.entry(number).or_default() += 1;
+            }
+            Err(difference) => {
+                self.differences += 1;
+                println!("DIFFERENCE in {}", path.display());
+                println!("{}", shortened(&case, &SIDES, difference));
+            }
         }
     }
 
