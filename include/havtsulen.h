@@ -7,8 +7,9 @@
  * Slices
  *   A slice is two arguments: a pointer to its first element, and its length in elements (not in bytes). An element is
  *   a byte (uint8_t) or a number (size_t). The pointer is not null, is aligned for its elements, and at least `length`
- *   elements lie there. An empty slice is a pointer that is not null, and the length 0. A null pointer, or a length
- *   that passes the memory behind it, is a mistake that the library cannot see.
+ *   elements lie there. An empty slice is a pointer that is not null, and the length 0; malloc(0) and the data() of an
+ *   empty C++ container may be null, so do not lend those. A null pointer, or a length that passes the memory behind
+ *   it, is a mistake that the library cannot see.
  *
  * Ownership
  *   The caller owns every buffer. A call uses its slices until it returns. The library keeps no pointer, allocates
@@ -21,8 +22,9 @@
  * Answer and report
  *   Every call returns 0 where it is accepted, and otherwise the number of its one refusal (enum havtsulen_refusal).
  *   Its last slice, `report`, takes the numbers that belong to the answer. It has at least HAVTSULEN_REPORT_NUMBERS
- *   numbers. If it is shorter the call returns 1 and writes nothing anywhere. Otherwise its first four numbers are
- *   always written, and the rest of it stays:
+ *   numbers. If it is shorter the call returns 1, before everything else is judged, and writes nothing anywhere, the
+ *   report included: it then still has its old numbers. The comments of the calls leave that case out. Otherwise its
+ *   first four numbers are always written, and the rest of it stays:
  *     accepted: what the comment of the call says, filled up with zeros;
  *     refused:  the place, 0, 0, 0. The place is a line (from 1), an offset in bytes (from 0), or 0, as the enum says.
  *
@@ -38,10 +40,11 @@
  *     index of entry e's section: entries[5 * e]
  *     key of entry e:             entries[5 * e + 2] bytes at text + entries[5 * e + 1]
  *     value of entry e:           entries[5 * e + 4] bytes at text + entries[5 * e + 3]
- *   No text ends in a NUL byte; only the lengths tell where it ends. A section that comes back in the file is one
- *   section. A key that comes back is another entry. Calls that ask a table take the lengths of the buffers, in
- *   elements, and beside them the counts of sections and entries, which havtsulen_read reports as its second and third
- *   number, and havtsulen_normal_text as its third and fourth.
+ *   An entry is one setting: a key and its value. Names, keys and values are not NUL-terminated; their lengths tell
+ *   where they end. A section that comes back in the file is one section. A key that comes back is another entry.
+ *   Calls that ask a table take the lengths of the buffers, in elements, and beside them the counts of sections and
+ *   entries, which havtsulen_read reports as its second and third number, and havtsulen_normal_text as its third and
+ *   fourth.
  *
  * Threads
  *   The library has no state and takes no locks. Any number of threads may call it at once, each with its own buffers
@@ -71,8 +74,8 @@ extern "C" {
 #define HAVTSULEN_SECTION_NUMBERS 128
 #define HAVTSULEN_ENTRY_NUMBERS 2560
 
-/* `out` of havtsulen_normal_text. */
-#define HAVTSULEN_OUT_BYTES 65535
+/* `out` of havtsulen_normal_text; that of havtsulen_write is another. */
+#define HAVTSULEN_NORMAL_BYTES 65535
 
 /* Buffers of havtsulen_split: `bytes` and `ends`. */
 #define HAVTSULEN_ITEM_BYTES 4096
@@ -99,7 +102,7 @@ enum havtsulen_refusal {
     /* of a file */
     HAVTSULEN_FILE_TOO_LONG = 2,    /* 0 */
     HAVTSULEN_NOT_UTF8 = 3,         /* line of the first byte after the longest well-formed start */
-    HAVTSULEN_CONTROL_BYTE = 4,     /* line of the first one: 00 to 1F but tab and LF, and 7F; so CR, and every CR LF */
+    HAVTSULEN_CONTROL_BYTE = 4,     /* line of the first one: 00 to 1F but tab and LF, and 7F (so CR LF line ends) */
     HAVTSULEN_LINE_TOO_LONG = 5,    /* line on which the joined line, of over 4,096 bytes, starts; so for 6 to 10 */
     HAVTSULEN_BAD_HEADER = 6,       /* line (a name has one or more bytes 20 to 7E, none of them [ or ]) */
     HAVTSULEN_NO_EQUALS_SIGN = 7,   /* line */
@@ -126,7 +129,7 @@ enum havtsulen_refusal {
 };
 
 /*
- * What a refusal says, in a few words without a full stop: for 0 "accepted", for a number that is none of the above
+ * What a refusal says, in one line without a full stop: for 0 "accepted", for a number that is none of the above
  * "unknown refusal". The string is constant and lives as long as the program; do not free it. The one function that is
  * not in the archive: it stands in c/refusal_text.c.
  */
@@ -135,28 +138,30 @@ const char *havtsulen_refusal_text(size_t number);
 /*
  * How far a text is UTF-8 (RFC 3629).
  * In:       text, any bytes, of any length.
- * Accepted: report = length of the longest well-formed start of the text, 0, 0, 0. It is text_length exactly when the
- *           whole text is UTF-8.
- * Refused:  1 (report too short).
+ * Accepted: always. report = length of the longest well-formed start of the text, 0, 0, 0. It is text_length exactly
+ *           when the whole text is UTF-8.
  */
 size_t havtsulen_well_formed_length(const uint8_t *text, size_t text_length, size_t *report, size_t report_length);
 
 /*
  * Judges the bytes of a file, not yet its lines.
  * In:       file, the whole file, of any length.
- * Accepted: the file is at most HAVTSULEN_FILE_BYTES long, is UTF-8 and has no control byte. report = 0, 0, 0, 0.
- * Refused:  1 (report too short), 2, 3, 4; the first of them in this order. report = place, 0, 0, 0.
+ * Accepted: the file counts at most HAVTSULEN_FILE_BYTES bytes, a missing last LF as one of them, is UTF-8 and has no
+ *           control byte. report = 0, 0, 0, 0.
+ * Refused:  2, 3, 4; the first of them in this order. report = place, 0, 0, 0.
  */
 size_t havtsulen_check_file(const uint8_t *file, size_t file_length, size_t *report, size_t report_length);
 
 /*
- * Reads a file into a table.
+ * Reads a file into a table. Lines that start with # or ; are comments. A line that ends in an odd run of backslashes
+ * goes on with the next line that is no comment, the last backslash becoming a space. Blanks (spaces, tabs) at both
+ * ends of a line and next to its first = are dropped. [name] opens a section, key=value is an entry of it.
  * In:       file, the whole file, of any length.
  * Out:      text, at least HAVTSULEN_TEXT_BYTES bytes; sections, at least HAVTSULEN_SECTION_NUMBERS numbers; entries,
  *           at least HAVTSULEN_ENTRY_NUMBERS numbers. See "The table of a file" above.
  * Accepted: report = bytes used in text, number of sections (at most 64), number of entries (at most 512), 0.
- * Refused:  1; then 2, 3, 4, each judged over the whole file, in this order; then the first faulty line, in it 5 to 10
- *           in order. report = place, 0, 0, 0, and the three buffers are as they were.
+ * Refused:  1 for a short buffer; then 2, 3, 4, each judged over the whole file, in this order; then the first faulty
+ *           line, in it 5 to 10 in order. report = place, 0, 0, 0, and the three buffers are as they were.
  */
 size_t havtsulen_read(const uint8_t *file, size_t file_length, uint8_t *text, size_t text_length, size_t *sections,
                       size_t sections_length, size_t *entries, size_t entries_length, size_t *report,
@@ -168,9 +173,8 @@ size_t havtsulen_read(const uint8_t *file, size_t file_length, uint8_t *text, si
  *           number for the last; the table: text, sections, section_count, entries, entry_count. Its buffers may have
  *           any length and hold any numbers: all records among the counts are judged.
  * Accepted: report = index of the entry, 0, 0, 0.
- * Refused:  1 (report too short); 41 where a record among the counts points outside the text buffer or names a section
- *           that is not below section_count, or a count passes its buffer; then 40 where there is no such entry.
- *           report = 0, 0, 0, 0.
+ * Refused:  41 where a record among the counts points outside the text buffer or names a section that is not below
+ *           section_count, or a count passes its buffer; then 40 where there is no such entry. report = 0, 0, 0, 0.
  */
 size_t havtsulen_find(const uint8_t *section, size_t section_length, const uint8_t *key, size_t key_length,
                       size_t which, const uint8_t *text, size_t text_length, const size_t *sections,
@@ -180,10 +184,9 @@ size_t havtsulen_find(const uint8_t *section, size_t section_length, const uint8
 /*
  * Where the value of an entry stands in the text buffer, or an empty part.
  * In:       index, any number; the table, as for havtsulen_find.
- * Accepted: always, if the report is long enough. report = start, length, 0, 0: the value is the `length` bytes at
- *           text + start. Where havtsulen_value_check refuses with 40 or 41, report = 0, 0, 0, 0. An empty value has
- *           the length 0 too; ask havtsulen_value_check to tell them apart.
- * Refused:  1 (report too short).
+ * Accepted: always. report = start, length, 0, 0: the value is the `length` bytes at text + start. Where
+ *           havtsulen_value_check refuses with 40 or 41, report = 0, 0, 0, 0. An empty value has the length 0 too; ask
+ *           havtsulen_value_check to tell them apart.
  */
 size_t havtsulen_value(size_t index, const uint8_t *text, size_t text_length, const size_t *sections,
                        size_t sections_length, size_t section_count, const size_t *entries, size_t entries_length,
@@ -193,8 +196,7 @@ size_t havtsulen_value(size_t index, const uint8_t *text, size_t text_length, co
  * The same, with a refusal where there is no value.
  * In:       index, any number; the table, as for havtsulen_find.
  * Accepted: report = start, length, 0, 0: the value is the `length` bytes at text + start. The length may be 0.
- * Refused:  1 (report too short); 41 as for havtsulen_find; then 40 where index is not below entry_count.
- *           report = 0, 0, 0, 0.
+ * Refused:  41 as for havtsulen_find; then 40 where index is not below entry_count. report = 0, 0, 0, 0.
  */
 size_t havtsulen_value_check(size_t index, const uint8_t *text, size_t text_length, const size_t *sections,
                              size_t sections_length, size_t section_count, const size_t *entries, size_t entries_length,
@@ -207,7 +209,7 @@ size_t havtsulen_value_check(size_t index, const uint8_t *text, size_t text_leng
  * in the same order.
  * In:       file, the whole file, of any length.
  * Out:      text, sections, entries as for havtsulen_read: they then hold the table of the file; out, at least
- *           HAVTSULEN_OUT_BYTES bytes, gets the normal text.
+ *           HAVTSULEN_NORMAL_BYTES bytes, gets the normal text.
  * Accepted: report = length of the normal text, bytes used in text, number of sections, number of entries.
  * Refused:  as havtsulen_read, and 1 also for a short out. report = place, 0, 0, 0, and the four buffers are as they
  *           were.
@@ -217,16 +219,19 @@ size_t havtsulen_normal_text(const uint8_t *file, size_t file_length, uint8_t *t
                              uint8_t *out, size_t out_length, size_t *report, size_t report_length);
 
 /*
- * Splits a text, such as a value, into items. Blanks (spaces, tabs) stand between items. An item may stand in double
- * or single quotes. Escapes count in and out of quotes: \a \b \f \n \r \t \v \\ \" \' \s (a space); \xHH and \OOO
- * (three octal digits), which give one byte; \uHHHH and \UHHHHHHHH, which give the UTF-8 of the code point.
+ * Splits a text, such as a value, into items. Blanks (spaces, tabs) stand between items. A double or a single quote
+ * opens only at the start of an item; the same quote closes it, the other kind inside is data, and a blank or the end
+ * of the text follows. Escapes count in and out of quotes: \a \b \f \n \r \t \v \\ \" \' \s (a space); \xHH and \OOO
+ * (three octal digits), which give one byte; \uHHHH and \UHHHHHHHH, which give the UTF-8 of the code point. Hex digits
+ * are of either case.
  * In:       text, any bytes; at most 4,096 are accepted.
  * Out:      bytes, at least HAVTSULEN_ITEM_BYTES bytes: the items one after another, quotes and escapes resolved;
  *           ends, at least HAVTSULEN_ITEM_ENDS numbers: ends[i] is the offset in bytes just after item i. Item i starts
  *           at ends[i - 1], the first one at 0. An item may be empty, and need not be UTF-8.
  * Accepted: report = number of items (may be 0), bytes used (the end of the last item), 0, 0.
- * Refused:  1, 20, 21 in this order; then the first fault from the left, 22 to 26. report = place, 0, 0, 0, and both
- *           buffers are as they were.
+ * Refused:  1 for a short buffer, 20, 21 in this order; then the first fault that is met reading from the left, 22 to
+ *           26: 26 where the item begins, before anything in it, 24 before 25 at one backslash, 23 only when the text
+ *           has ended. report = place, 0, 0, 0, and both buffers are as they were.
  */
 size_t havtsulen_split(const uint8_t *text, size_t text_length, uint8_t *bytes, size_t bytes_length, size_t *ends,
                        size_t ends_length, size_t *report, size_t report_length);
@@ -239,9 +244,9 @@ size_t havtsulen_split(const uint8_t *text, size_t text_length, uint8_t *bytes, 
  *           item.
  * Out:      out, at least HAVTSULEN_WRITE_BYTES bytes.
  * Accepted: report = length of the text, 0, 0, 0.
- * Refused:  1, 26 (more than 256 items), 28 (an end lies below the one before it, or past bytes_length), 27 (a NUL byte
- *           in an item; one behind the last end does no harm), 20 (the text would be longer than 4,096 bytes), in this
- *           order. report = 0, 0, 0, 0, and out is as it was.
+ * Refused:  1 for a short out, 26 (more than 256 items), 28 (an end lies below the one before it, or past
+ *           bytes_length), 27 (a NUL byte in an item; one behind the last end does no harm), 20 (the text would be
+ *           longer than 4,096 bytes), in this order. report = 0, 0, 0, 0, and out is as it was.
  */
 size_t havtsulen_write(const uint8_t *bytes, size_t bytes_length, const size_t *ends, size_t ends_length, uint8_t *out,
                        size_t out_length, size_t *report, size_t report_length);
@@ -250,7 +255,7 @@ size_t havtsulen_write(const uint8_t *bytes, size_t bytes_length, const size_t *
  * Whether a text says yes or no. Yes is 1, yes, true or on; no is 0, no, false or off; exactly these bytes.
  * In:       text, any bytes, of any length.
  * Accepted: report = 1 for yes or 0 for no, 0, 0, 0.
- * Refused:  1 (report too short), 30. report = 0, 0, 0, 0, so only the number returned tells it from a no.
+ * Refused:  30. report = 0, 0, 0, 0, so only the number returned tells it from a no.
  */
 size_t havtsulen_boolean(const uint8_t *text, size_t text_length, size_t *report, size_t report_length);
 
@@ -259,7 +264,7 @@ size_t havtsulen_boolean(const uint8_t *text, size_t text_length, size_t *report
  * us, ms, s, min, h, d (24 hours), w (7 days). Blanks may stand around, between parts, and before a unit.
  * In:       text, any bytes, of any length.
  * Accepted: report = microseconds (the sum of the parts), 0, 0, 0.
- * Refused:  1 (report too short), 31, then 32 (more than 18446744073709551615 microseconds). report = 0, 0, 0, 0.
+ * Refused:  31 (the form), then 32 (more than 18446744073709551615 microseconds). report = 0, 0, 0, 0.
  */
 size_t havtsulen_span(const uint8_t *text, size_t text_length, size_t *report, size_t report_length);
 

@@ -109,7 +109,7 @@ static uint8_t text[HAVTSULEN_TEXT_BYTES];
 static size_t sections[HAVTSULEN_SECTION_NUMBERS];
 static size_t entries[HAVTSULEN_ENTRY_NUMBERS];
 static size_t section_count, entry_count;
-static uint8_t out[HAVTSULEN_OUT_BYTES];
+static uint8_t out[HAVTSULEN_NORMAL_BYTES];
 static uint8_t bytes[HAVTSULEN_ITEM_BYTES];
 static size_t ends[HAVTSULEN_ITEM_ENDS];
 static size_t report[HAVTSULEN_REPORT_NUMBERS];

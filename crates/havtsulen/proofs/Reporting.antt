@@ -8,7 +8,7 @@ use lib.Dec.{eqb}
 use borrow.Author.Tests.{lt-ltb, le-ltb}
 use Rattle.lines.specs.Answers.{Outcome, accepted, refused}
 use Rattle.lines.specs.Buffers.{filled}
-use Rattle.havtsulen.specs.Reports.{four, reported, isShort, withReport, reportAfter, Reports}
+use Rattle.havtsulen.specs.Reports.{four, isShort, withReport, reportAfter, Reports}
 use Rattle.havtsulen.specs.Steps.{Replies}
 
 -- ---- the report is judged before everything

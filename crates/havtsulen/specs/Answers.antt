@@ -6,7 +6,7 @@ use mathlib.Core.Bool.{Bool, cond}
 use mathlib.Core.List.{List}
 use lib.ListN.{length, getD}
 use Rattle.lines.specs.Bytes.{Bytes}
-use Rattle.lines.specs.Answers.{Outcome, accepted, refused}
+use Rattle.lines.specs.Answers.{Outcome, accepted}
 use Rattle.lines.specs.Utf8.{longestStart}
 use Rattle.lines.specs.Files.{checkedFile}
 use Rattle.table.specs.Tables.{Table}

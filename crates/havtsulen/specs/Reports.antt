@@ -31,7 +31,7 @@ reported told (refused n p) = four p 0 0 0
 unfoldable pub isShort : (report : List ℕ) → Bool
 isShort report = ltb (length report) 4
 
--- that is 1, before everything
+-- an outcome with a report: one that is too short is 1, before everything
 unfoldable pub withReport : {A : Type 0} → (report : List ℕ) → Outcome A → Outcome A
 unfolding isShort
 withReport report o = cond (isShort report) (refused 1 0) o

@@ -4,11 +4,11 @@ use mathlib.Core.Logic.{_↔_}
 use Prim.Native.Nat.{ℕ, _≤_}
 use mathlib.Core.List.{List}
 use lib.ListN.{length}
-use Rattle.lines.specs.Bytes.{Bytes, equal}
+use Rattle.lines.specs.Bytes.{Bytes}
 use Rattle.lines.specs.Lines.{logical}
 use Rattle.lines.specs.Files.{size}
 use Rattle.lines.specs.Answers.{accepted}
-use Rattle.table.specs.Tables.{Table, names, verdict}
+use Rattle.table.specs.Tables.{Table, verdict}
 use Rattle.normal_text.specs.Sections.{Pair, Section, sectionsOf, sectionsIn}
 use Rattle.normal_text.specs.ByLines.{sectionsOfLines}
 use Rattle.normal_text.specs.NormalText.{normalText}

@@ -1,7 +1,7 @@
 //! Cases from inputs: lent buffers of the stated size or a little more, filled with random patterns; and
 //! buffers that are too short.
 
-use havtsulen::{ENTRY_NUMBERS, ITEM_BYTES, ITEM_ENDS, OUT_BYTES, REPORT_NUMBERS};
+use havtsulen::{ENTRY_NUMBERS, ITEM_BYTES, ITEM_ENDS, NORMAL_BYTES, REPORT_NUMBERS};
 use havtsulen::{SECTION_NUMBERS, TEXT_BYTES, WRITE_BYTES};
 
 use crate::case::{Call, Case};
@@ -33,7 +33,7 @@ fn written(call: Call) -> &'static [Written] {
             case.sections.truncate(length)
         }),
         (ENTRY_NUMBERS, |case, length| case.entries.truncate(length)),
-        (OUT_BYTES, |case, length| case.out.truncate(length)),
+        (NORMAL_BYTES, |case, length| case.out.truncate(length)),
     ];
     const ITEMS: [Written; 2] = [
         (ITEM_BYTES, |case, length| case.bytes.truncate(length)),
@@ -88,7 +88,7 @@ pub fn file_case(random: &mut Random, call: Call, file: Vec<u8>) -> Case {
         case.entries = random.numbers(entries);
     }
     if call == Call::NormalText {
-        let out = enough(random, OUT_BYTES);
+        let out = enough(random, NORMAL_BYTES);
         case.out = random.bytes(out);
     }
     case
@@ -135,7 +135,7 @@ pub fn plain_case(call: Call, input: &[u8]) -> Case {
     let items = call == Call::Split;
     let if_taken = |taken, size| if taken { size } else { 0 };
     let out = match call {
-        Call::NormalText => OUT_BYTES,
+        Call::NormalText => NORMAL_BYTES,
         Call::Write => WRITE_BYTES,
         _ => 0,
     };

@@ -124,15 +124,15 @@ pub fn read(
     })
 }
 
-/// Writes the normal text of a file into `out`, of at least [`OUT_BYTES`](crate::OUT_BYTES). The other
+/// Writes the normal text of a file into `out`, of at least [`NORMAL_BYTES`](crate::NORMAL_BYTES). The other
 /// three buffers are those of [`read`] and then hold the file's table.
 ///
 /// [`normal`](crate::normal) does the same with buffers of its own.
 ///
 /// ```
-/// use havtsulen::{ENTRY_NUMBERS, OUT_BYTES, SECTION_NUMBERS, TEXT_BYTES};
+/// use havtsulen::{ENTRY_NUMBERS, NORMAL_BYTES, SECTION_NUMBERS, TEXT_BYTES};
 ///
-/// let (mut text, mut out) = (vec![0; TEXT_BYTES], vec![0; OUT_BYTES]);
+/// let (mut text, mut out) = (vec![0; TEXT_BYTES], vec![0; NORMAL_BYTES]);
 /// let (mut sections, mut entries) = (vec![0; SECTION_NUMBERS], vec![0; ENTRY_NUMBERS]);
 /// let file = b"[A]\n K = 1\n";
 /// let sizes = havtsulen::normal_text(file, &mut text, &mut sections, &mut entries, &mut out)?;

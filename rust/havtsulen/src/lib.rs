@@ -64,5 +64,5 @@ pub use calls::{value, value_check, well_formed_length, write};
 pub use error::Error;
 pub use owned::{duration, items, list, normal, Entry, Table};
 pub use types::{Counts, Items, Part, Sizes, Which};
-pub use types::{ENTRY_NUMBERS, FILE_BYTES, ITEM_BYTES, ITEM_ENDS, OUT_BYTES, REPORT_NUMBERS};
+pub use types::{ENTRY_NUMBERS, FILE_BYTES, ITEM_BYTES, ITEM_ENDS, NORMAL_BYTES, REPORT_NUMBERS};
 pub use types::{SECTION_NUMBERS, STACK_BYTES, TEXT_BYTES, WRITE_BYTES};

@@ -3,7 +3,7 @@
 use std::time::Duration;
 
 use crate::calls::{find, normal_text, read, span, split, value, write};
-use crate::{Error, Which, ENTRY_NUMBERS, ITEM_BYTES, ITEM_ENDS, OUT_BYTES, SECTION_NUMBERS};
+use crate::{Error, Which, ENTRY_NUMBERS, ITEM_BYTES, ITEM_ENDS, NORMAL_BYTES, SECTION_NUMBERS};
 use crate::{TEXT_BYTES, WRITE_BYTES};
 
 /// The sections and entries of a file.
@@ -130,7 +130,7 @@ fn table_buffers() -> (Vec<u8>, Vec<usize>, Vec<usize>) {
 /// ```
 pub fn normal(file: &[u8]) -> Result<Vec<u8>, Error> {
     let (mut text, mut sections, mut entries) = table_buffers();
-    let mut out = vec![0; OUT_BYTES];
+    let mut out = vec![0; NORMAL_BYTES];
     let sizes = normal_text(file, &mut text, &mut sections, &mut entries, &mut out)?;
     out.truncate(sizes.length);
     Ok(out)

@@ -9,7 +9,7 @@ pub const SECTION_NUMBERS: usize = 128;
 /// Numbers of their buffer of entries: five for each of 512.
 pub const ENTRY_NUMBERS: usize = 2560;
 /// Bytes of the output buffer of [`normal_text`](crate::normal_text).
-pub const OUT_BYTES: usize = 65535;
+pub const NORMAL_BYTES: usize = 65535;
 /// Bytes of the buffer of item bytes of [`split`](crate::split).
 pub const ITEM_BYTES: usize = 4096;
 /// Numbers of its buffer of ends: one for each of 256 items.

@@ -1,19 +1,13 @@
 //! The wrapper and the C side say the same: numbers, names, places, texts and sizes.
 
-use std::collections::BTreeMap;
-use std::fs;
-use std::path::Path;
+mod common;
 
+use std::collections::BTreeMap;
+
+use common::repository_file;
 use havtsulen::Error;
 
 const PREFIX: &str = "HAVTSULEN_";
-
-fn repository_file(name: &str) -> String {
-    let path = Path::new(env!("CARGO_MANIFEST_DIR"))
-        .join("../..")
-        .join(name);
-    fs::read_to_string(&path).unwrap_or_else(|error| panic!("{}: {error}", path.display()))
-}
 
 /// A refusal as the enum of the header has it.
 struct Refusal {
@@ -139,7 +133,7 @@ fn the_constants_are_those_of_the_header() {
         ("ITEM_BYTES", havtsulen::ITEM_BYTES),
         ("ITEM_ENDS", havtsulen::ITEM_ENDS),
         ("LAST", havtsulen::Which::Last as usize),
-        ("OUT_BYTES", havtsulen::OUT_BYTES),
+        ("NORMAL_BYTES", havtsulen::NORMAL_BYTES),
         ("REPORT_NUMBERS", havtsulen::REPORT_NUMBERS),
         ("SECTION_NUMBERS", havtsulen::SECTION_NUMBERS),
         ("STACK_BYTES", havtsulen::STACK_BYTES),

@@ -30,7 +30,7 @@ pub const SECTION_NUMBERS: usize = 128;
 /// Smallest entry buffer of the reader, in numbers: 512 records of five.
 pub const ENTRY_NUMBERS: usize = 2560;
 /// Smallest output buffer of the normal text.
-pub const OUT_BYTES: usize = 65535;
+pub const NORMAL_BYTES: usize = 65535;
 /// Smallest buffer for the bytes of split items.
 pub const ITEM_BYTES: usize = 4096;
 /// Smallest buffer for the ends of split items, and the most items there may be.

@@ -2,7 +2,7 @@
 
 use crate::bytes::ends_in_odd_run;
 use crate::table::{read, ENTRY_RECORD, MAX_SECTIONS, SECTION_RECORD};
-use crate::{refuse, Refusal, Sizes, OUT_BYTES};
+use crate::{refuse, Refusal, Sizes, NORMAL_BYTES};
 
 /// Reads a file into the reader's buffers and writes its normal text; refuses as
 /// the reader does.
@@ -13,7 +13,7 @@ pub fn normal_text(
     entries: &mut [usize],
     out: &mut [u8],
 ) -> Result<Sizes, Refusal> {
-    if out.len() < OUT_BYTES {
+    if out.len() < NORMAL_BYTES {
         return refuse(1, 0);
     }
     let table = read(file, text, sections, entries)?;

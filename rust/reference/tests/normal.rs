@@ -66,7 +66,7 @@ fn the_longest_texts() {
 #[test]
 fn the_output_buffer() {
     let mut b = Buffers::new(0);
-    b.out.truncate(OUT_BYTES - 1);
+    b.out.truncate(NORMAL_BYTES - 1);
     let before = b.clone();
     assert_eq!(b.normal(b"[A]\nK=1"), refusal(1, 0));
     assert_eq!(b.normal(&[0; 70_000]), refusal(1, 0));
@@ -74,7 +74,7 @@ fn the_output_buffer() {
     let mut b = Buffers::new(0);
     assert_eq!(b.normal(b"[A]\nK=1").unwrap().length, 8);
     assert_eq!(&b.out[..8], b"[A]\nK=1\n");
-    assert!(b.out[8..OUT_BYTES - 1] == before.out[8..]);
+    assert!(b.out[8..NORMAL_BYTES - 1] == before.out[8..]);
 }
 
 /// A made-up file of pieces that meet the rules now and then.

@@ -25,7 +25,7 @@ impl Buffers {
             text: (0..TEXT_BYTES + extra).map(byte).collect(),
             sections: (0..SECTION_NUMBERS + extra).map(number).collect(),
             entries: (0..ENTRY_NUMBERS + extra).map(number).collect(),
-            out: (0..OUT_BYTES + extra).map(byte).collect(),
+            out: (0..NORMAL_BYTES + extra).map(byte).collect(),
         }
     }
 
