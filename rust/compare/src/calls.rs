@@ -36,7 +36,7 @@ fn library(case: &mut Lent) -> usize {
         Call::Find | Call::Value | Call::ValueCheck => library_look_up(case),
         Call::Read | Call::NormalText => library_table(case),
         Call::Split | Call::Write => library_items(case),
-        _ => library_text(case),
+        Call::WellFormedLength | Call::CheckFile | Call::Boolean | Call::Span => library_text(case),
     }
 }
 
@@ -46,7 +46,8 @@ fn library_text(case: &mut Lent) -> usize {
         Call::WellFormedLength => raw::havtsulen_well_formed_length,
         Call::CheckFile => raw::havtsulen_check_file,
         Call::Boolean => raw::havtsulen_boolean,
-        _ => raw::havtsulen_span,
+        Call::Span => raw::havtsulen_span,
+        other => unreachable!("{other:?} takes more than a text"),
     };
     // SAFETY: pointers and lengths are those of the case's own buffers, borrowed alone.
     unsafe {
@@ -70,11 +71,12 @@ fn library_table(case: &mut Lent) -> usize {
                 sections.as_mut_ptr(), sections.len(), entries.as_mut_ptr(), entries.len(),
                 report.as_mut_ptr(), report.len(),
             ),
-            _ => raw::havtsulen_normal_text(
+            Call::NormalText => raw::havtsulen_normal_text(
                 input.as_ptr(), input.len(), text.as_mut_ptr(), text.len(),
                 sections.as_mut_ptr(), sections.len(), entries.as_mut_ptr(), entries.len(),
                 out.as_mut_ptr(), out.len(), report.as_mut_ptr(), report.len(),
             ),
+            other => unreachable!("{other:?} reads no file into buffers"),
         }
     }
 }
@@ -89,10 +91,11 @@ fn library_items(case: &mut Lent) -> usize {
                 input.as_ptr(), input.len(), bytes.as_mut_ptr(), bytes.len(),
                 ends.as_mut_ptr(), ends.len(), report.as_mut_ptr(), report.len(),
             ),
-            _ => raw::havtsulen_write(
+            Call::Write => raw::havtsulen_write(
                 bytes.as_ptr(), bytes.len(), ends.as_ptr(), ends.len(),
                 out.as_mut_ptr(), out.len(), report.as_mut_ptr(), report.len(),
             ),
+            other => unreachable!("{other:?} is about no items"),
         }
     }
 }
@@ -101,10 +104,6 @@ fn library_items(case: &mut Lent) -> usize {
 fn library_look_up(case: &mut Lent) -> usize {
     let Lent { section, key, text, sections, entries, report, .. } = case;
     let (section_count, entry_count) = (case.section_count, case.entry_count);
-    let value = match case.call {
-        Call::Value => raw::havtsulen_value,
-        _ => raw::havtsulen_value_check,
-    };
     // SAFETY: pointers and lengths are those of the case's own buffers, borrowed alone.
     unsafe {
         match case.call {
@@ -113,10 +112,15 @@ fn library_look_up(case: &mut Lent) -> usize {
                 text.as_ptr(), text.len(), sections.as_ptr(), sections.len(), section_count,
                 entries.as_ptr(), entries.len(), entry_count, report.as_mut_ptr(), report.len(),
             ),
-            _ => value(
+            Call::Value => raw::havtsulen_value(
                 case.index, text.as_ptr(), text.len(), sections.as_ptr(), sections.len(), section_count,
                 entries.as_ptr(), entries.len(), entry_count, report.as_mut_ptr(), report.len(),
             ),
+            Call::ValueCheck => raw::havtsulen_value_check(
+                case.index, text.as_ptr(), text.len(), sections.as_ptr(), sections.len(), section_count,
+                entries.as_ptr(), entries.len(), entry_count, report.as_mut_ptr(), report.len(),
+            ),
+            other => unreachable!("{other:?} asks no table"),
         }
     }
 }
@@ -159,7 +163,9 @@ macro_rules! rust_calls {
                 match case.call {
                     Call::Find | Call::Value | Call::ValueCheck => look_up(case),
                     Call::Read | Call::NormalText | Call::Split | Call::Write => fill(case),
-                    call => judge(call, &case.input),
+                    call @ (Call::WellFormedLength | Call::CheckFile | Call::Boolean | Call::Span) => {
+                        judge(call, &case.input)
+                    }
                 }
             }
 
@@ -168,7 +174,8 @@ macro_rules! rust_calls {
                     Call::WellFormedLength => Ok($library::well_formed_length(text)),
                     Call::CheckFile => $library::check_file(text).map(|()| 0),
                     Call::Boolean => $library::boolean(text).map(usize::from),
-                    _ => $library::span(text).map(|span| span as usize),
+                    Call::Span => $library::span(text).map(|span| span as usize),
+                    other => unreachable!("{other:?} takes more than a text"),
                 };
                 number.map(|number| [number, 0, 0, 0]).map_err($refusal)
             }
@@ -183,7 +190,10 @@ macro_rules! rust_calls {
                         .map(|(length, table)| [length, table.text, table.sections, table.entries]),
                     Call::Split => $library::split(input, bytes, ends)
                         .map(|items| [items.count, items.length, 0, 0]),
-                    _ => $library::write(bytes, ends, out).map(|length| [length, 0, 0, 0]),
+                    Call::Write => {
+                        $library::write(bytes, ends, out).map(|length| [length, 0, 0, 0])
+                    }
+                    other => unreachable!("{other:?} fills no buffer"),
                 };
                 report.map_err($refusal)
             }
@@ -200,9 +210,10 @@ macro_rules! rust_calls {
                     Call::Value => Ok(place_in(text, $library::value(
                         *index, text, sections, *section_count, entries, *entry_count,
                     ))),
-                    _ => $library::value_check(
+                    Call::ValueCheck => $library::value_check(
                         *index, text, sections, *section_count, entries, *entry_count,
                     ).map(|part| [part.start, part.length, 0, 0]),
+                    other => unreachable!("{other:?} asks no table"),
                 };
                 report.map_err($refusal)
             }

@@ -179,7 +179,8 @@ impl Case {
         match self.call {
             Call::Find | Call::Value | Call::ValueCheck => &TABLE,
             Call::Write => &ITEMS,
-            _ => &INPUT,
+            Call::WellFormedLength | Call::CheckFile | Call::Boolean | Call::Span => &INPUT,
+            Call::Read | Call::NormalText | Call::Split => &INPUT,
         }
     }
 
@@ -190,7 +191,8 @@ impl Case {
         match self.call {
             Call::Find | Call::Value | Call::ValueCheck => &TABLE,
             Call::Write => &ITEMS,
-            _ => &[],
+            Call::WellFormedLength | Call::CheckFile | Call::Boolean | Call::Span => &[],
+            Call::Read | Call::NormalText | Call::Split => &[],
         }
     }
 }

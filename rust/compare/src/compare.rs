@@ -108,7 +108,8 @@ fn outcome_difference(left: &Outcome, right: &Outcome) -> Option<String> {
 fn broken_rule(before: &Lent, outcome: &Outcome) -> Option<String> {
     written_outside(outcome).or_else(|| match outcome.number {
         None => Some("there is no number".to_string()),
-        Some(0) => properties::broken(&outcome.after),
+        Some(0) => catch_unwind(AssertUnwindSafe(|| properties::broken(&outcome.after)))
+            .unwrap_or_else(|_| Some("a property has panicked".to_string())),
         Some(_) => buffer_difference(before, &outcome.after),
     })
 }

@@ -3,7 +3,9 @@
 use std::collections::BTreeMap;
 use std::fmt;
 
-use crate::case::Call;
+use havtsulen::REPORT_NUMBERS;
+
+use crate::case::{Call, Case};
 use crate::properties;
 
 /// Inputs and how they were answered.
@@ -31,6 +33,7 @@ pub struct Counts {
     calls: BTreeMap<&'static str, Tally>,
     kinds: BTreeMap<&'static str, Tally>,
     refused: BTreeMap<usize, usize>,
+    short_reports: usize,
     properties: usize,
 }
 
@@ -40,17 +43,20 @@ pub const REFUSALS: [usize; 24] = [
 ];
 
 impl Counts {
-    /// Counts one input of a kind that a call has answered with a number.
-    pub fn add(&mut self, kind: &'static str, call: Call, number: usize) {
+    /// Counts one input of a kind that was answered with a number. The 1 of a short report is no refusal
+    /// of the rules, and counts by itself.
+    pub fn add(&mut self, kind: &'static str, case: &Case, number: usize) {
         let tally = Tally {
             inputs: 1,
             accepted: usize::from(number == 0),
         };
-        self.calls.entry(call.name()).or_default().add(tally);
+        self.calls.entry(case.call.name()).or_default().add(tally);
         self.kinds.entry(kind).or_default().add(tally);
-        if number != 0 {
+        if case.report.len() < REPORT_NUMBERS {
+            self.short_reports += 1;
+        } else if number != 0 {
             *self.refused.entry(number).or_default() += 1;
-        } else if properties::judged(call) {
+        } else if properties::judged(case.call) {
             self.properties += 1;
         }
     }
@@ -66,6 +72,7 @@ impl Counts {
         for (&number, times) in &other.refused {
             *self.refused.entry(number).or_default() += times;
         }
+        self.short_reports += other.short_reports;
         self.properties += other.properties;
     }
 
@@ -96,6 +103,11 @@ impl Counts {
     pub fn refused(&self, number: usize) -> usize {
         self.refused.get(&number).copied().unwrap_or(0)
     }
+
+    /// How often the report was too short.
+    pub fn short_reports(&self) -> usize {
+        self.short_reports
+    }
 }
 
 fn write_rows(f: &mut fmt::Formatter<'_>, rows: &BTreeMap<&'static str, Tally>) -> fmt::Result {
@@ -120,6 +132,7 @@ impl fmt::Display for Counts {
         for number in REFUSALS {
             writeln!(f, "  {number:>2}: {:>8}", self.refused(number))?;
         }
+        writeln!(f, "short reports: {}", self.short_reports)?;
         writeln!(f, "held against a property: {}", self.properties)?;
         let total = self.total();
         write!(

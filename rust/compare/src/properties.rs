@@ -109,11 +109,29 @@ fn items_of(case: &Lent, count: usize) -> Vec<Vec<u8>> {
         .collect()
 }
 
-/// What was written is split into the items that were to be written.
+/// What was written is printable, is split into the items that were to be written, and is the value of
+/// an entry, if its line is not too long.
 fn items_come_back(after: &Lent) -> Result<(), &'static str> {
     let items = items_of(after, after.ends.len());
-    let split = havtsulen::items(&after.out[..after.report[0]]);
-    hold(split == Ok(items), "the written items do not come back")
+    let text = &after.out[..after.report[0]];
+    let printable = |byte: &u8| (0x20..=0x7e).contains(byte);
+    hold(
+        text.iter().all(printable),
+        "the written text is not printable",
+    )?;
+    let split = havtsulen::items(text);
+    hold(split == Ok(items), "the written items do not come back")?;
+    let fits = text.len() + b"K=".len() <= 4096;
+    match Table::read(&[b"[A]\nK=", text, b"\n"].concat()) {
+        Ok(table) => hold(
+            fits && table.last(b"A", b"K") == Ok(text),
+            "the written text is not the value of its entry",
+        ),
+        Err(error) => hold(
+            !fits && error == havtsulen::Error::LineTooLong { line: 2 },
+            "the written text does not stand in a file",
+        ),
+    }
 }
 
 /// Items that were split, written again and split again, are the same, if their text is not too long.

@@ -61,6 +61,8 @@ fn setting<T: FromStr<Err: Display>>(name: &str) -> Option<T> {
 pub struct Planned {
     /// The kind of input.
     pub kind: &'static str,
+    /// Whether it is drawn, and not from a list.
+    pub drawn: bool,
     /// The case's own seed.
     pub seed: u64,
     /// The case.
@@ -88,6 +90,7 @@ pub fn planned(plan: &Plan, index: usize) -> Planned {
         if left < list.count {
             return Planned {
                 kind: list.name,
+                drawn: false,
                 seed,
                 case: (list.make)(left, &mut random),
             };
@@ -99,20 +102,40 @@ pub fn planned(plan: &Plan, index: usize) -> Planned {
     lend_too_little(&mut random, &mut case);
     Planned {
         kind: kind.name,
+        drawn: true,
         seed,
         case,
     }
 }
 
+/// The counts of a run: of the lists, and of what was drawn.
+#[derive(Clone, Debug, Default)]
+pub struct Results {
+    /// The lists.
+    pub listed: Counts,
+    /// What was drawn.
+    pub drawn: Counts,
+}
+
 /// Runs one case, and counts it.
-fn run_case(plan: &Plan, index: usize, sides: &[Side], counts: &mut Counts) -> Result<(), String> {
+fn run_case(
+    plan: &Plan,
+    index: usize,
+    sides: &[Side],
+    results: &mut Results,
+) -> Result<(), String> {
     let planned = planned(plan, index);
     match compare(&planned.case, sides) {
         Ok(outcome) => {
             let number = outcome
                 .number
                 .expect("an outcome without difference has a number");
-            counts.add(planned.kind, planned.case.call, number);
+            let counts = if planned.drawn {
+                &mut results.drawn
+            } else {
+                &mut results.listed
+            };
+            counts.add(planned.kind, &planned.case, number);
             Ok(())
         }
         Err(difference) => Err(format!(
@@ -146,29 +169,29 @@ fn run_some(
     sides: &[Side],
     (first, step): (usize, usize),
     stop: &AtomicBool,
-) -> Result<Counts, Failure> {
-    let mut counts = Counts::default();
+) -> Result<Results, Failure> {
+    let mut results = Results::default();
     for index in (first..plan.total()).step_by(step) {
         if stop.load(Ordering::Relaxed) {
             break;
         }
-        if let Err(failure) = run_case(plan, index, sides, &mut counts) {
+        if let Err(failure) = run_case(plan, index, sides, &mut results) {
             stop.store(true, Ordering::Relaxed);
             return Err((index, failure));
         }
     }
-    Ok(counts)
+    Ok(results)
 }
 
 /// Runs the plan: the first side is compared with the others. Of several failures the earliest is told.
-pub fn run(plan: &Plan, sides: &[Side]) -> Result<Counts, String> {
-    let mut counts = Counts::default();
+pub fn run(plan: &Plan, sides: &[Side]) -> Result<Results, String> {
+    let mut all = Results::default();
     if let Some(index) = plan.only {
-        return run_case(plan, index, sides, &mut counts).map(|()| counts);
+        return run_case(plan, index, sides, &mut all).map(|()| all);
     }
     let threads = thread::available_parallelism().map_or(1, NonZero::get);
     let stop = AtomicBool::new(false);
-    let results: Vec<Result<Counts, Failure>> = thread::scope(|scope| {
+    let results: Vec<Result<Results, Failure>> = thread::scope(|scope| {
         let stop = &stop;
         let start = |first| scope.spawn(move || run_some(plan, sides, (first, threads), stop));
         let running: Vec<_> = (0..threads).map(start).collect();
@@ -180,12 +203,15 @@ pub fn run(plan: &Plan, sides: &[Side]) -> Result<Counts, String> {
     let mut failures = Vec::new();
     for result in results {
         match result {
-            Ok(part) => counts.merge(&part),
+            Ok(part) => {
+                all.listed.merge(&part.listed);
+                all.drawn.merge(&part.drawn);
+            }
             Err(failure) => failures.push(failure),
         }
     }
     match failures.into_iter().min() {
         Some((_, failure)) => Err(failure),
-        None => Ok(counts),
+        None => Ok(all),
     }
 }

@@ -5,50 +5,45 @@ use std::time::Instant;
 use compare::calls::SIDES;
 use compare::case::Call;
 use compare::counts::{Counts, REFUSALS};
-use compare::run::{run, Plan, DEFAULT_CASES};
+use compare::run::{run, Plan};
 
-/// What every run has at least: inputs.
-const INPUTS: usize = 200_000;
-/// What a run of the default size or more has at least: each refusal, accepted ones in 100.
+/// How many inputs are drawn at least; the lists come on top.
+const DRAWN: usize = 200_000;
+/// How often each refusal comes among them at least, and a report that is too short.
 const EACH_REFUSAL: usize = 500;
+/// How many in 100 of them are accepted at least, in all and of each call.
 const ACCEPTED_IN_100: f64 = 30.0;
 
-fn assert_shares(counts: &Counts) {
-    let share = counts.accepted_share();
+fn assert_enough(drawn: &Counts) {
+    let inputs = drawn.inputs();
+    assert!(inputs >= DRAWN, "only {inputs} inputs drawn");
+    let share = drawn.accepted_share();
     assert!(share >= ACCEPTED_IN_100, "{share:.1} in 100 accepted");
     for call in Call::ALL {
-        let share = counts.accepted_share_of(call);
+        let share = drawn.accepted_share_of(call);
+        let name = call.name();
         assert!(
             share >= ACCEPTED_IN_100,
-            "{share:.1} in 100 accepted by {}",
-            call.name()
+            "{name}: {share:.1} in 100 accepted"
         );
     }
     for number in REFUSALS {
-        let times = counts.refused(number);
+        let times = drawn.refused(number);
         assert!(times >= EACH_REFUSAL, "refusal {number} came {times} times");
     }
+    let times = drawn.short_reports();
+    assert!(times >= EACH_REFUSAL, "{times} reports were too short");
 }
 
 #[test]
 fn the_three_sides_agree() {
     let plan = Plan::from_environment();
     let start = Instant::now();
-    let counts = run(&plan, &SIDES).unwrap_or_else(|failure| panic!("\n{failure}\n"));
-    println!(
-        "seed {}, {} cases drawn, {:.1} s",
-        plan.seed,
-        plan.cases,
-        start.elapsed().as_secs_f64()
-    );
-    println!("{counts}");
-    if plan.only.is_some() {
-        return;
-    }
-    assert!(counts.inputs() >= INPUTS, "{} inputs", counts.inputs());
-    if plan.cases >= DEFAULT_CASES {
-        assert_shares(&counts);
-    } else {
-        println!("fewer than {DEFAULT_CASES} cases drawn: shares and refusals are not asserted");
+    let results = run(&plan, &SIDES).unwrap_or_else(|failure| panic!("\n{failure}\n"));
+    println!("the lists\n{}\n", results.listed);
+    println!("drawn with the seed {}\n{}\n", plan.seed, results.drawn);
+    println!("{:.1} s", start.elapsed().as_secs_f64());
+    if plan.only.is_none() {
+        assert_enough(&results.drawn);
     }
 }

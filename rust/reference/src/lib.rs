@@ -1,8 +1,8 @@
 //! The rules of document 01 (a settings-file library) in plain Rust.
 //!
-//! Nothing here allocates. Every call works in local arrays first and copies into
-//! the lent buffers only once nothing can be refused any more, so that a refused
-//! call leaves each buffer as it was.
+//! Nothing here allocates. Every call writes into the lent buffers only once nothing
+//! can be refused any more, so that a refused call leaves each buffer as it was:
+//! reader, splitter and writer work in local arrays first.
 #![no_std]
 #![forbid(unsafe_code)]
 
