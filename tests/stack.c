@@ -1,9 +1,6 @@
 /*
  * Measures the stack that each call needs, and exits with 1 where one needs more than HAVTSULEN_STACK_BYTES, or answers
- * another number than the one that its input is made for.
- *
- *   gcc -std=c99 -Wall -Wextra -pedantic -Werror -O2 -Iinclude -o target/stack \
- *       tests/stack.c target/staticlib/libhavtsulen.a -Wl,-z,now && target/stack
+ * another number than the one that its input is made for. The script tests/stack compiles and runs it.
  *
  * Each call is made on a stack of its own, 1 MiB that was filled with one byte. The deepest byte that has changed tells
  * how deep the call went, whatever it left above as it was. It is made twice, with two fillings, so that a byte that is

@@ -46,7 +46,8 @@
 //!
 //! A call needs at most 128 KiB of stack ([`STACK_BYTES`]). The main thread and the threads of
 //! [`std::thread`] have more; give a thread with a stack of your own choice at least that much on top of
-//! its own need.
+//! its own need. The library touches its stack page by page, so that a call on one that is too small ends
+//! the program at the guard page below it.
 //!
 //! # Threads
 //!

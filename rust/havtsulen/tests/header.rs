@@ -124,6 +124,29 @@ fn offset_0_is_shown_but_for_a_list_to_write() {
     assert_eq!(shown(26), "there are more than 256 items");
 }
 
+/// The lines `NAME, .. = NUMBER, ..` of the example in Python.
+fn python_constants() -> BTreeMap<String, usize> {
+    let example = repository_file("examples/setting.py");
+    let constants = |line: &str| {
+        let (names, numbers) = line.split_once(" = ")?;
+        let numbers: Result<Vec<usize>, _> = numbers.split(", ").map(str::parse).collect();
+        let names = names.split(", ").map(str::to_string);
+        Some(names.zip(numbers.ok()?).collect::<Vec<_>>())
+    };
+    example.lines().filter_map(constants).flatten().collect()
+}
+
+#[test]
+fn the_constants_in_python_are_those_of_the_header() {
+    let header = header_constants();
+    let mut python = python_constants();
+    python.retain(|name, _| !name.starts_with("STATUS_"));
+    assert_eq!(python.len(), 8);
+    for (name, number) in python {
+        assert_eq!(header.get(&name), Some(&number), "{name}");
+    }
+}
+
 #[test]
 fn the_constants_are_those_of_the_header() {
     let wrapper = [

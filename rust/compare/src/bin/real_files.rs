@@ -1,8 +1,9 @@
 //! `real_files FOLDER ..`: compares the proved library with the reference over the files of folders.
 //!
-//! Each regular file of at most 65,536 bytes is checked, read and made normal, and each value of an
-//! accepted file is split and taken as a boolean and as a time span. Exit status: 0 all alike, 1 a
-//! difference, 2 no folder given, or no file in it.
+//! Each regular file of at most a million bytes is checked, read and made normal. Each entry of an accepted
+//! file is looked up, and its value is asked for, split, and taken as a boolean and as a time span. Lent
+//! buffers hold random patterns. Exit status: 0 all alike, 1 a difference, 2 no folder given, or no file
+//! in it.
 
 use std::collections::{BTreeMap, HashSet};
 use std::env;
@@ -12,17 +13,16 @@ use std::os::unix::fs::MetadataExt;
 use std::path::{Path, PathBuf};
 use std::process::ExitCode;
 
-use compare::buffers::plain_case;
+use compare::buffers::{file_case, split_case, text_case};
 use compare::calls::SIDES;
-use compare::case::Call;
+use compare::case::{Call, Case};
 use compare::compare::compare;
+use compare::random::Random;
 use compare::run::shortened;
 use havtsulen::Table;
 
-/// Bytes of the longest file that is looked at: one more than a file may have.
-const MOST: u64 = 65536;
-const FILE_CALLS: [Call; 3] = [Call::CheckFile, Call::Read, Call::NormalText];
-const VALUE_CALLS: [Call; 3] = [Call::Split, Call::Boolean, Call::Span];
+/// Bytes of the longest file that is looked at. Those above 65,535 are refused.
+const MOST: u64 = 1_000_000;
 
 /// How the inputs of one call were answered, by number; 0 is accepted.
 #[derive(Default)]
@@ -53,6 +53,7 @@ impl Numbers {
 struct Findings {
     files: usize,
     accepted: usize,
+    too_long: usize,
     passed_over: usize,
     differences: usize,
     calls: BTreeMap<&'static str, Numbers>,
@@ -60,11 +61,10 @@ struct Findings {
 
 impl Findings {
     /// Compares one call, and prints a difference with its shortened input.
-    fn compare(&mut self, path: &Path, call: Call, input: &[u8]) {
-        let case = plain_case(call, input);
+    fn compare(&mut self, path: &Path, case: Case) {
         match compare(&case, &SIDES) {
             Ok(outcome) => {
-                let numbers = self.calls.entry(call.name()).or_default();
+                let numbers = self.calls.entry(case.call.name()).or_default();
                 let number = outcome
                     .number
                     .expect("an outcome without difference has a number");
@@ -80,17 +80,39 @@ impl Findings {
 
     fn examine(&mut self, path: &Path, file: &[u8]) {
         self.files += 1;
-        for call in FILE_CALLS {
-            self.compare(path, call, file);
+        let mut random = Random::new(self.files as u64);
+        for call in [Call::CheckFile, Call::Read, Call::NormalText] {
+            self.compare(path, file_case(&mut random, call, file.to_vec()));
         }
         let Ok(table) = Table::read(file) else {
             return;
         };
         self.accepted += 1;
+        self.examine_entries(path, &table, &lent(&mut random, file));
         for entry in table.entries() {
-            for call in VALUE_CALLS {
-                self.compare(path, call, entry.value);
+            self.compare(path, split_case(&mut random, entry.value.to_vec()));
+            for call in [Call::Boolean, Call::Span] {
+                self.compare(path, text_case(&mut random, call, entry.value.to_vec()));
             }
+        }
+    }
+
+    /// Asks for each entry of a table that stands in the buffers of a case.
+    fn examine_entries(&mut self, path: &Path, table: &Table, lent: &Case) {
+        for (index, entry) in table.entries().enumerate() {
+            let (section, key) = (entry.section.to_vec(), entry.key.to_vec());
+            let asked = |call, which| Case {
+                call,
+                which,
+                index,
+                section: section.clone(),
+                key: key.clone(),
+                ..lent.clone()
+            };
+            self.compare(path, asked(Call::Find, 0));
+            self.compare(path, asked(Call::Find, 1));
+            self.compare(path, asked(Call::Value, 0));
+            self.compare(path, asked(Call::ValueCheck, 0));
         }
     }
 
@@ -103,14 +125,28 @@ impl Findings {
     fn print(&self) {
         println!("{} files, {} of them accepted", self.files, self.accepted);
         println!(
-            "{} passed over, {} differences",
-            self.passed_over, self.differences
+            "{} not looked at as they have over {MOST} bytes, {} that cannot be read",
+            self.too_long, self.passed_over
         );
-        for call in FILE_CALLS.iter().chain(&VALUE_CALLS) {
+        println!("{} differences", self.differences);
+        for call in Call::ALL {
             if let Some(numbers) = self.calls.get(call.name()) {
-                numbers.print(*call);
+                numbers.print(call);
             }
         }
+    }
+}
+
+/// A question to the table of an accepted file, as the reader leaves it.
+fn lent(random: &mut Random, file: &[u8]) -> Case {
+    let mut case = file_case(random, Call::Read, file.to_vec());
+    let (text, sections, entries) = (&mut case.text, &mut case.sections, &mut case.entries);
+    let counts = havtsulen::read(file, text, sections, entries).expect("it was read before");
+    Case {
+        input: Vec::new(),
+        section_count: counts.sections,
+        entry_count: counts.entries,
+        ..case
     }
 }
 
@@ -137,9 +173,10 @@ fn visit(path: &Path, about: &Metadata, findings: &mut Findings) -> io::Result<V
     if about.is_dir() {
         return inside(path);
     }
-    if about.is_file() && about.len() <= MOST {
-        if let Some(file) = contents(path)? {
-            findings.examine(path, &file);
+    if about.is_file() {
+        match contents(path)? {
+            Some(file) => findings.examine(path, &file),
+            None => findings.too_long += 1,
         }
     }
     Ok(Vec::new())
