@@ -15,6 +15,10 @@ pub fn fault(random: &mut Random, number: usize) -> Vec<u8> {
     match number {
         3 => around(random, utf8::broken),
         4 => around(random, control),
+        5 if random.one_in(3) => {
+            let number = random.between(6, 8);
+            long_fault(random, number)
+        }
         5 => {
             let length = LINE + random.between(1, 900);
             long_line(random, length)

@@ -35,9 +35,9 @@ fn unbroken_line(random: &mut Random, length: usize) -> Vec<u8> {
 /// Puts line breaks, up to some thousands, where the line has a letter or a space; comments between them, up to
 /// some hundreds, count nothing.
 pub fn break_up(random: &mut Random, line: &[u8]) -> Vec<u8> {
-    let breaks = random.pick(&[0, 0, 0, 1, 2, 9, 9, 300, 2000]);
+    let breaks = random.pick(&[0, 0, 0, 0, 1, 1, 2, 2, 9, 9, 300, 2000]);
     let rate = line.len().div_ceil(breaks.max(1));
-    let comments = random.pick(&[0, 0, 0, 1, 1, 600 / breaks.max(1)]);
+    let comments = random.pick(&[0, 0, 0, 0, 1, 1, 1, 600 / breaks.max(1)]);
     let mut broken = Vec::new();
     for (offset, &byte) in line.iter().enumerate() {
         let inside = 2 < offset && offset + 1 < line.len();
