@@ -4,40 +4,21 @@ use crate::buffers::any_file_case;
 use crate::case::Case;
 use crate::faults::fault;
 use crate::files::put_break;
-use crate::full::{one_more, Placed};
-use crate::long_lines::LINE;
+use crate::full::one_more;
+use crate::placed::{idle_lines, Placed};
 use crate::random::Random;
-
-/// So many physical lines that bring nothing: empty ones, comments, or continued ones with comments or without.
-pub fn idle_lines(random: &mut Random, count: usize) -> Vec<u8> {
-    let (first, second) = random.pick(&[
-        (&b"\n"[..], &b"\n"[..]),
-        (b"#\n", b";\\\n"),
-        (b"\\\n", b"\\\n"),
-        (b"\\\n", b"#\n"),
-    ]);
-    let joined = random.between(100, LINE);
-    let mut lines = Vec::with_capacity(3 * count);
-    for number in 1..=count {
-        let last = number == count || number % joined == 0;
-        let line = if number % 2 == 0 { second } else { first };
-        lines.extend_from_slice(if last { b"\n" } else { line });
-    }
-    lines
-}
 
 /// A fault of this number, 3 to 10, behind thousands of lines. The bytes of 3 and 4 may stand in the second
 /// physical line of theirs.
 pub fn faulty(random: &mut Random, number: usize) -> Placed {
+    let idle = some_thousand(random);
     if number == 10 {
         let placed = one_more(random);
-        let idle = some_thousand(random);
         return Placed {
             before: [idle, placed.before].concat(),
             ..placed
         };
     }
-    let idle = some_thousand(random);
     let before = match random.below(2) {
         _ if number == 9 => idle,
         0 => [idle, b"[A]\nK=1\n".to_vec()].concat(),
@@ -57,8 +38,12 @@ pub fn faulty(random: &mut Random, number: usize) -> Placed {
     }
 }
 
-/// Some thousands of idle lines, few enough for a table behind them.
+/// Some thousands of idle lines, few enough for a table behind them; or so many empty ones that the number of
+/// the next line is about 2^15.
 fn some_thousand(random: &mut Random) -> Vec<u8> {
+    if random.one_in(8) {
+        return vec![b'\n'; (1 << 15) - random.below(9)];
+    }
     let count = random.between(1000, 12_000);
     idle_lines(random, count)
 }

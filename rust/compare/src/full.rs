@@ -2,33 +2,10 @@
 
 use crate::buffers::any_file_case;
 use crate::case::Case;
-use crate::far::idle_lines;
 use crate::faults::{fault, long_fault};
 use crate::limits::{many_entries, many_sections, ENTRIES, SECTIONS};
+use crate::placed::{idle_lines, Placed};
 use crate::random::Random;
-
-/// A line with all that stands before it in the file, and all that stands behind it.
-pub struct Placed {
-    /// Whole lines.
-    pub before: Vec<u8>,
-    /// A logical line, in one physical line or several.
-    pub line: Vec<u8>,
-    /// Whole lines.
-    pub after: Vec<u8>,
-}
-
-impl Placed {
-    /// The whole file.
-    pub fn file(&self) -> Vec<u8> {
-        [&self.before[..], &self.line, &self.after].concat()
-    }
-
-    /// The number of the line's first physical line.
-    pub fn place(&self) -> usize {
-        let passed = self.before.iter().filter(|&&byte| byte == b'\n');
-        1 + passed.count()
-    }
-}
 
 /// Headers of a section that no other header opens.
 const NEW_SECTION: [&[u8]; 7] = [

@@ -27,6 +27,7 @@ pub mod long_lines;
 pub mod long_names;
 pub mod mutate;
 pub mod noise;
+pub mod placed;
 pub mod properties;
 pub mod random;
 pub mod run;

@@ -124,7 +124,7 @@ fn without_last_lf(random: &mut Random, length: usize) -> Vec<u8> {
     file
 }
 
-/// A file of this many bytes that has no last LF, ends in a letter, and is its own normal text but for that LF.
+/// A file of this many bytes that ends in a letter; with a last LF it would be its own normal text.
 pub fn normal_without_last_lf(random: &mut Random, length: usize) -> Vec<u8> {
     let mut file = b"[A]\n".to_vec();
     while file.len() <= length {
@@ -203,8 +203,8 @@ pub fn many_entries(random: &mut Random, count: usize) -> Vec<u8> {
 /// Bytes of the longest header and entry of `full_table`, without their filler.
 const FULL_LINES: usize = "[section 63]\nKey.513=513\n".len();
 
-/// All sections and so many entries, dealt out to them in turn, in a short file or in one that is full but for
-/// a few bytes.
+/// All sections and so many entries, dealt out to them in turn, in a short file or in one that is full, or
+/// nearly so.
 fn full_table(random: &mut Random, count: usize) -> Vec<u8> {
     let longest = FILE_BYTES / count - FULL_LINES;
     let filler = "x".repeat(random.pick(&[0, 1, longest]));

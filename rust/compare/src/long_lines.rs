@@ -32,8 +32,8 @@ fn unbroken_line(random: &mut Random, length: usize) -> Vec<u8> {
     line
 }
 
-/// Puts line breaks, up to some thousands, where the line has a letter or a space; comments between them, up to
-/// some hundreds, count nothing.
+/// Puts line breaks, none or up to some thousands, where the line has a letter or a space; comments between
+/// them, none or up to some hundreds, count nothing.
 pub fn break_up(random: &mut Random, line: &[u8]) -> Vec<u8> {
     let breaks = random.pick(&[0, 0, 0, 0, 1, 1, 2, 2, 9, 9, 300, 2000]);
     let rate = line.len().div_ceil(breaks.max(1));

@@ -64,15 +64,8 @@ pub fn file(random: &mut Random) -> Case {
         }
         file.extend([b"[", &random.pick(&names)[..], b"]\n"].concat());
         if random.one_in(2) {
-            file.extend(
-                [
-                    &random.pick(&keys)[..],
-                    b"=",
-                    number.to_string().as_bytes(),
-                    b"\n",
-                ]
-                .concat(),
-            );
+            file.extend(random.pick(&keys));
+            file.extend(format!("={number}\n").bytes());
         }
     }
     any_file_case(random, file)
@@ -88,7 +81,7 @@ fn put_words(text: &mut Vec<u8>, words: &[Vec<u8>]) -> Vec<[usize; 2]> {
     records
 }
 
-/// A case with a table of such names and keys, and a question for one of them or for one that is one byte off.
+/// A case with a table of such names and keys, which asks for one of them or for one that is one byte off.
 pub fn table(random: &mut Random) -> Case {
     let mut case = question(random);
     let alphabet = random.pick(&[NAME, ANY, b"ab"]);

@@ -148,7 +148,7 @@ fn odd_count(random: &mut Random, numbers: usize, size: usize) -> usize {
     ])
 }
 
-/// A record whose sum comes to a place inside the text where it wraps at 64 bits, is cut to 32, or has a sign.
+/// A record whose sum is a place inside the text if it wraps at 64 bits, is cut to 32, or has a sign.
 fn wrap_record(random: &mut Random, record: &mut [usize]) {
     let (half, small) = (1 << 63, random.below(3));
     if random.one_in(4) {
