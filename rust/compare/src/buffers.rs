@@ -49,6 +49,20 @@ fn written(call: Call) -> &'static [Written] {
     }
 }
 
+/// The report, which every call writes to.
+const REPORT: Written = (REPORT_NUMBERS, |case, length| case.report.truncate(length));
+
+/// The case with one of the buffers that the call writes to, or the report, one element short: each in turn.
+pub fn each_one_short(case: &Case) -> Vec<Case> {
+    let cut_once = |&(stated, cut): &Written| {
+        let mut short = case.clone();
+        cut(&mut short, stated - 1);
+        short
+    };
+    let written = written(case.call).iter().chain([&REPORT]);
+    written.map(cut_once).collect()
+}
+
 /// Lends too little once in a while: a short report, and one short buffer or several.
 pub fn lend_too_little(random: &mut Random, case: &mut Case) {
     if random.one_in(20) {

@@ -5,7 +5,8 @@ use havtsulen::FILE_BYTES;
 use crate::buffers::any_file_case;
 use crate::case::Case;
 use crate::files::{joined, pieces, Pieces};
-use crate::limits::{long_line, many_entries, many_sections, ENTRIES, LINE, SECTIONS};
+use crate::limits::{many_entries, many_sections, ENTRIES, SECTIONS};
+use crate::long_lines::{long_line, stretched, LINE};
 use crate::random::Random;
 use crate::utf8;
 
@@ -14,6 +15,10 @@ pub fn fault(random: &mut Random, number: usize) -> Vec<u8> {
     match number {
         3 => around(random, utf8::broken),
         4 => around(random, control),
+        5 if random.one_in(3) => {
+            let number = random.between(6, 8);
+            long_fault(random, number)
+        }
         5 => {
             let length = LINE + random.between(1, 900);
             long_line(random, length)
@@ -25,6 +30,13 @@ pub fn fault(random: &mut Random, number: usize) -> Vec<u8> {
         8 => bad_key(random),
         _ => too_many(random),
     }
+}
+
+/// A line that is too long and has a fault of this number too, one of 6 to 8.
+pub fn long_fault(random: &mut Random, number: usize) -> Vec<u8> {
+    let line = fault(random, number);
+    let length = LINE + random.pick(&[1, 1, 2, 900]);
+    stretched(random, &line, length)
 }
 
 /// Puts a fault of this number into the file: 9 before everything, any other at any place, often at the

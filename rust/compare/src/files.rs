@@ -1,7 +1,7 @@
 //! Files by the grammar of the rules, files with small changes, and files of few bytes.
 
-use crate::buffers::any_file_case;
-use crate::case::Case;
+use crate::buffers::{any_file_case, file_case};
+use crate::case::{Call, Case};
 use crate::mutate::{mutate, nth_string, strings_up_to};
 use crate::random::Random;
 use crate::utf8;
@@ -211,19 +211,17 @@ const SHORT: &[u8] = b"[]=\\\n #a";
 /// How many cases `short_listed` has.
 pub const SHORT_LISTED: usize = strings_up_to(SHORT, 5);
 
-/// Every short string over a small alphabet.
+/// Every short string over a small alphabet, for the call that fills all buffers.
 pub fn short_listed(index: usize, random: &mut Random) -> Case {
-    any_file_case(random, nth_string(SHORT, index))
+    file_case(random, Call::NormalText, nth_string(SHORT, index))
 }
 
 const BEHIND: &[u8] = b"\\\n #=a";
 /// How many cases `behind_listed` has.
 pub const BEHIND_LISTED: usize = strings_up_to(BEHIND, 6);
 
-/// Every short string over a small alphabet, behind a header and the start of an entry.
+/// Every short string over a small alphabet, behind a header and the start of an entry, for the same call.
 pub fn behind_listed(index: usize, random: &mut Random) -> Case {
-    any_file_case(
-        random,
-        [b"[a]\nb=", &nth_string(BEHIND, index)[..]].concat(),
-    )
+    let file = [b"[a]\nb=", &nth_string(BEHIND, index)[..]].concat();
+    file_case(random, Call::NormalText, file)
 }

@@ -3,8 +3,9 @@
 use std::fmt;
 use std::ops::{Deref, DerefMut};
 
-/// Elements before the buffer, and as many behind it.
-pub const GUARD: usize = 16;
+/// Elements before the buffer, and as many behind it. The number is odd, so that no buffer of bytes starts
+/// where a machine word does.
+pub const GUARD: usize = 17;
 
 /// A buffer with a guard before and behind it.
 #[derive(Clone)]

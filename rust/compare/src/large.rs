@@ -127,7 +127,7 @@ const DAMAGES: usize = FIELDS.len() * ENTRIES + SECTIONS;
 /// How many cases `damaged_listed` has.
 pub const DAMAGED_LISTED: usize = DAMAGES * QUESTIONS.len();
 
-/// Each record of a full table is damaged, and another entry is asked for.
+/// Each record of a full table is damaged, and any entry is asked for.
 pub fn damaged_listed(index: usize, random: &mut Random) -> Case {
     let (call, which) = QUESTIONS[index % QUESTIONS.len()];
     let damage = index / QUESTIONS.len();

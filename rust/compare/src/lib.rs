@@ -5,6 +5,7 @@
 //! leave. [`run::run`] does so for many cases; where two sides differ it shortens the input first.
 #![deny(unsafe_op_in_unsafe_fn, missing_docs)]
 
+pub mod beyond;
 pub mod buffers;
 pub mod calls;
 pub mod case;
@@ -13,19 +14,25 @@ pub mod counts;
 pub mod describe;
 pub mod escapes;
 pub mod every_byte;
+pub mod far;
 pub mod faults;
 pub mod files;
+pub mod full;
 pub mod guarded;
 pub mod kinds;
 pub mod large;
 pub mod limits;
 pub mod lists;
+pub mod long_lines;
+pub mod long_names;
 pub mod mutate;
 pub mod noise;
+pub mod placed;
 pub mod properties;
 pub mod random;
 pub mod run;
 pub mod shrink;
+pub mod span_limits;
 pub mod tables;
 pub mod texts;
 pub mod units;

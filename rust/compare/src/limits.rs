@@ -4,11 +4,9 @@ use havtsulen::FILE_BYTES;
 
 use crate::buffers::any_file_case;
 use crate::case::Case;
-use crate::files::comment;
+use crate::long_lines::{break_up, long_line, unbroken_entry, LINE};
 use crate::random::Random;
 
-/// Bytes of the longest logical line.
-pub const LINE: usize = 4096;
 /// The most sections of a file.
 pub const SECTIONS: usize = 64;
 /// The most entries of a file.
@@ -28,7 +26,7 @@ pub struct Shape {
 }
 
 /// All shapes.
-pub const SHAPES: [Shape; 8] = [
+pub const SHAPES: [Shape; 10] = [
     Shape {
         name: "file with a last LF",
         limit: FILE_BYTES,
@@ -42,6 +40,12 @@ pub const SHAPES: [Shape; 8] = [
         make: without_last_lf,
     },
     Shape {
+        name: "normal file without",
+        limit: FILE_BYTES - 1,
+        number: 2,
+        make: normal_without_last_lf,
+    },
+    Shape {
         name: "line",
         limit: LINE,
         number: 5,
@@ -52,6 +56,12 @@ pub const SHAPES: [Shape; 8] = [
         limit: LINE,
         number: 5,
         make: line_at_end,
+    },
+    Shape {
+        name: "entry",
+        limit: LINE,
+        number: 5,
+        make: file_with_entry,
     },
     Shape {
         name: "continued at the end",
@@ -114,59 +124,20 @@ fn without_last_lf(random: &mut Random, length: usize) -> Vec<u8> {
     file
 }
 
-/// The bytes of a logical line of this length, before it is broken into physical ones.
-fn unbroken_line(random: &mut Random, length: usize) -> Vec<u8> {
-    let mut line = vec![b'a'; length];
-    match random.below(5) {
-        0 => line.fill(b' '),
-        1 => {
-            line[0] = b'[';
-            line[length - 1] = b']';
-            return line;
-        }
-        2 => {
-            let (left, right) = (random.between(1, 2000), random.between(1, 2000));
-            line[..left].fill(b'\t');
-            line[length - right..].fill(b' ');
-            line[left..left + 2].copy_from_slice(b"K=");
-        }
-        3 => {
-            let count = random.between(1, length / 2 - 2);
-            line.splice(2..2 + 2 * count, "é".repeat(count).bytes());
-            line[1] = b'=';
-        }
-        _ => line[1] = b'=',
+/// A file of this many bytes that ends in a letter; with a last LF it would be its own normal text.
+pub fn normal_without_last_lf(random: &mut Random, length: usize) -> Vec<u8> {
+    let mut file = b"[A]\n".to_vec();
+    while file.len() <= length {
+        let left = length + 1 - file.len();
+        let size = if left <= LINE {
+            left
+        } else {
+            random.between(200, LINE - 200)
+        };
+        file.extend(sized_line(b"K=", b'a', size));
     }
-    line
-}
-
-/// Puts line breaks where the line has a letter or a space; comments between them count nothing.
-fn break_up(random: &mut Random, line: &[u8]) -> Vec<u8> {
-    let breaks = random.pick(&[0, 0, 1, 2, 9]);
-    let rate = line.len() / breaks.max(1);
-    let comments = random.one_in(2);
-    let mut broken = Vec::new();
-    for (offset, &byte) in line.iter().enumerate() {
-        let inside = 2 < offset && offset + 1 < line.len();
-        let breakable = inside && matches!(byte, b'a' | b' ');
-        if breaks == 0 || !breakable || !random.one_in(rate) {
-            broken.push(byte);
-            continue;
-        }
-        broken.extend_from_slice(b"\\\n");
-        if comments {
-            broken.extend(comment(random));
-        }
-    }
-    broken
-}
-
-/// A logical line of this length, in one or more physical lines, and its LF.
-pub fn long_line(random: &mut Random, length: usize) -> Vec<u8> {
-    let unbroken = unbroken_line(random, length);
-    let mut line = break_up(random, &unbroken);
-    line.push(b'\n');
-    line
+    file.pop();
+    file
 }
 
 fn file_with_line(random: &mut Random, length: usize) -> Vec<u8> {
@@ -181,6 +152,13 @@ fn line_at_end(random: &mut Random, length: usize) -> Vec<u8> {
     let mut file = [&b"[A]\n"[..], &long_line(random, length)].concat();
     file.pop();
     file
+}
+
+/// The line is an entry whose key and value are any parts of it.
+fn file_with_entry(random: &mut Random, length: usize) -> Vec<u8> {
+    let line = unbroken_entry(random, length);
+    let after = random.pick(&[&b""[..], b"\n", b"\n[B]\n", b"\nK=1"]);
+    [b"[A]\n", &line[..], after].concat()
 }
 
 /// The last line ends in a backslash, which counts as a space; nothing or only comments follow.
@@ -222,13 +200,21 @@ pub fn many_entries(random: &mut Random, count: usize) -> Vec<u8> {
     file
 }
 
-/// All sections and so many entries, dealt out to them in turn, in a file that is nearly full.
+/// Bytes of the longest header and entry of `full_table`, without their filler.
+const FULL_LINES: usize = "[section 63]\nKey.513=513\n".len();
+
+/// All sections and so many entries, dealt out to them in turn, in a short file or in one that is full, or
+/// nearly so.
 fn full_table(random: &mut Random, count: usize) -> Vec<u8> {
-    let value = random.pick(&["", "x", "some words of a value that make the file longer"]);
+    let longest = FILE_BYTES / count - FULL_LINES;
+    let filler = "x".repeat(random.pick(&[0, 1, longest]));
     let mut file = Vec::new();
     for number in 0..count {
         let section = number % SECTIONS;
-        file.extend(format!("[section {section}]\nKey.{number}={value}{number}\n").bytes());
+        file.extend(format!("[section {section}]\nKey.{number}={filler}{number}\n").bytes());
+    }
+    if filler.len() == longest {
+        file.resize(FILE_BYTES - random.below(3), b'\n');
     }
     file
 }

@@ -78,8 +78,11 @@ fn put_fault(random: &mut Random, list: &mut List, number: usize) {
             behind.for_each(|end| *end = end.saturating_add(1));
         }
         _ => {
-            let odd = random.pick(&[0, 1, bytes.len() + 1, bytes.len() + 5, usize::MAX]);
             let at = random.between(0, ends.len());
+            let before = ends[..at].last().copied().unwrap_or(0);
+            let far = random.far_from(before);
+            let length = bytes.len();
+            let odd = random.pick(&[0, 1, length + 1, length + 5, far, far, usize::MAX]);
             ends.insert(at, odd);
         }
     }

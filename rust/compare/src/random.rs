@@ -39,6 +39,16 @@ impl Random {
         choices[self.below(choices.len())].clone()
     }
 
+    /// A number near 2^31, 2^32 or 2^63, or one that is `number` again where it is cut below that bit.
+    pub fn far_from(&mut self, number: usize) -> usize {
+        let power = 1 << self.pick(&[31, 32, 32, 63]);
+        match self.below(4) {
+            0 => power + self.below(3),
+            1 => power - 1 - self.below(3),
+            _ => number.wrapping_add(power),
+        }
+    }
+
     /// Any byte.
     pub fn byte(&mut self) -> u8 {
         self.bits() as u8

@@ -10,7 +10,8 @@ use crate::random::Random;
 /// A question of look-up, with an empty table.
 pub fn question(random: &mut Random) -> Case {
     let call = random.pick(&[Call::Find, Call::Find, Call::Value, Call::ValueCheck]);
-    let which = random.pick(&[0, 0, 1, 1, 2, usize::MAX]);
+    let far = random.far_from(0);
+    let which = random.pick(&[0, 0, 0, 1, 1, 2, 1 << 8, 1 << 16, far, usize::MAX]);
     Case {
         which,
         ..text_case(random, call, Vec::new())
@@ -25,9 +26,11 @@ fn part<'a>(text: &'a [u8], record: &[usize]) -> &'a [u8] {
 
 /// Asks for an entry that is there, or for parts of two entries, or for another name.
 pub fn ask(random: &mut Random, case: &mut Case) {
+    let index = random.below(case.entry_count.max(1));
+    let far = random.far_from(index);
     case.index = match random.below(8) {
-        0 => random.pick(&[case.entry_count, usize::MAX, case.entry_count + 1]),
-        _ => random.below(case.entry_count.max(1)),
+        0 => random.pick(&[case.entry_count, usize::MAX, case.entry_count + 1, far, far]),
+        _ => index,
     };
     if case.entry_count == 0 {
         return;
@@ -75,17 +78,24 @@ fn by_hand(random: &mut Random) -> Case {
     let mut case = question(random);
     let length = random.between(0, 16);
     case.text = random.word(b"ab", length);
-    case.section_count = random.between(1, 4);
-    case.entry_count = random.between(0, 9);
-    for _ in 0..case.section_count {
+    let counts = (random.between(1, 4), random.between(0, 9));
+    put_records(random, &mut case, counts);
+    case
+}
+
+/// Puts so many sections and entries, at least one section, whose names, keys and values are short parts of
+/// the text anywhere.
+pub fn put_records(random: &mut Random, case: &mut Case, (sections, entries): (usize, usize)) {
+    let length = case.text.len();
+    for _ in 0..sections {
         case.sections.extend(record(random, length));
     }
-    for _ in 0..case.entry_count {
-        case.entries.push(random.below(case.section_count));
+    for _ in 0..entries {
+        case.entries.push(random.below(sections));
         case.entries.extend(record(random, length));
         case.entries.extend(record(random, length));
     }
-    case
+    (case.section_count, case.entry_count) = (sections, entries);
 }
 
 /// A case with a sound table.
@@ -99,10 +109,12 @@ pub fn drawn(random: &mut Random) -> Case {
     case
 }
 
-/// A number that may be out of place: at the edges of the buffers, or so large that sums wrap.
-fn odd_number(random: &mut Random, case: &Case) -> usize {
+/// A number that may be out of place where `old` was: at the edges of the buffers, or so large that sums
+/// wrap, or far from the old one.
+fn odd_number(random: &mut Random, case: &Case, old: usize) -> usize {
     let length = case.text.len();
     let (small, any) = (random.below(4), random.bits() as usize);
+    let far = random.far_from(old);
     random.pick(&[
         length,
         length + 1,
@@ -113,6 +125,8 @@ fn odd_number(random: &mut Random, case: &Case) -> usize {
         usize::MAX - small,
         usize::MAX - length,
         usize::MAX / 2 + 1,
+        far,
+        far,
         any,
     ])
 }
@@ -120,6 +134,7 @@ fn odd_number(random: &mut Random, case: &Case) -> usize {
 /// A count that may pass its buffer of records of this size, also by wrapping.
 fn odd_count(random: &mut Random, numbers: usize, size: usize) -> usize {
     let (small, any) = (random.below(3), random.bits() as usize);
+    let far = random.far_from(numbers / size);
     random.pick(&[
         numbers / size,
         numbers / size + 1,
@@ -128,22 +143,34 @@ fn odd_count(random: &mut Random, numbers: usize, size: usize) -> usize {
         usize::MAX - small,
         usize::MAX / size + small,
         usize::MAX / 2 + 1,
+        far,
         any,
     ])
 }
 
-/// A record whose sum wraps to a place inside the text.
+/// A record whose sum is a place inside the text if it wraps at 64 bits, is cut to 32, or has a sign.
 fn wrap_record(random: &mut Random, record: &mut [usize]) {
-    record[0] = usize::MAX - random.below(20);
-    record[1] = (usize::MAX - record[0]) + 1 + random.below(3);
+    let (half, small) = (1 << 63, random.below(3));
+    if random.one_in(4) {
+        record[..2].copy_from_slice(&[half + small, half + random.below(3)]);
+        return;
+    }
+    let end: usize = random.pick(&[0, 0, 1 << 32, half]);
+    record[0] = end.wrapping_sub(random.between(1, 20));
+    record[1] = end.wrapping_sub(record[0]) + small;
 }
 
 fn damage(random: &mut Random, case: &mut Case) {
-    let odd = odd_number(random, case);
     let (sections, entries) = (case.sections.len(), case.entries.len());
     match random.below(8) {
-        0 | 1 if sections > 0 => case.sections[random.below(sections)] = odd,
-        2 | 3 if entries > 0 => case.entries[random.below(entries)] = odd,
+        0 | 1 if sections > 0 => {
+            let at = random.below(sections);
+            case.sections[at] = odd_number(random, case, case.sections[at]);
+        }
+        2 | 3 if entries > 0 => {
+            let at = random.below(entries);
+            case.entries[at] = odd_number(random, case, case.entries[at]);
+        }
         4 if sections > 1 => {
             let at = 2 * random.below(sections / 2);
             wrap_record(random, &mut case.sections[at..]);

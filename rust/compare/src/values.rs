@@ -6,7 +6,8 @@ use crate::mutate::{mutate, nth_string, strings_up_to};
 use crate::random::Random;
 
 const WORDS: [&[u8]; 8] = [b"1", b"yes", b"true", b"on", b"0", b"no", b"false", b"off"];
-const UNITS: [(&[u8], u128); 7] = [
+/// The units and their microseconds.
+pub const UNITS: [(&[u8], u128); 7] = [
     (b"us", 1),
     (b"ms", 1_000),
     (b"s", 1_000_000),
@@ -16,7 +17,7 @@ const UNITS: [(&[u8], u128); 7] = [
     (b"w", 604_800_000_000),
 ];
 /// Microseconds of the largest span.
-const LARGEST: u128 = u64::MAX as u128;
+pub const LARGEST: u128 = u64::MAX as u128;
 
 /// A boolean, or something near one.
 pub fn boolean(random: &mut Random) -> Case {
@@ -62,7 +63,7 @@ fn number(random: &mut Random) -> u128 {
 }
 
 /// Parts with blanks before, between and behind them.
-fn spell(random: &mut Random, parts: &[(u128, &[u8])]) -> Vec<u8> {
+pub fn spell(random: &mut Random, parts: &[(u128, &[u8])]) -> Vec<u8> {
     let most = random.pick(&[0, 0, 1, 3]);
     let mut text = random.blanks(most);
     for (number, unit) in parts {
