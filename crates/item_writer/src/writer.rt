@@ -111,9 +111,9 @@ fn last_end(ends: &[usize]) -> usize
 
 // ---- a byte inside quotes
 
-// The letter of a byte that has a letter escape; 0 where it has none.
-fn letter_of(b: u8) -> u8
-    ensures { λ r. ⌜ letterMeans r ≡ letterOf (controlLetters ++ signLetters) b ⌝ }
+// The letter of a control byte that has a letter escape; 0 where it has none.
+fn control_letter(b: u8) -> u8
+    ensures { λ r. ⌜ letterMeans r ≡ letterOf controlLetters b ⌝ }
 {
     match b {
         0x07 => b'a',
@@ -123,10 +123,25 @@ fn letter_of(b: u8) -> u8
         0x0D => b'r',
         0x09 => b't',
         0x0B => b'v',
-        b'\\' => b'\\',
-        b'"' => b'"',
         _ => 0,
     }
+}
+
+// The letter of any byte that has a letter escape, the two signs among them; 0 where it has none. Most bytes are no
+// control bytes, and are told by comparisons alone.
+fn letter_of(b: u8) -> u8
+    ensures { λ r. ⌜ letterMeans r ≡ letterOf (controlLetters ++ signLetters) b ⌝ }
+{
+    if b == b'\\' {
+        return b;
+    }
+    if b == b'"' {
+        return b;
+    }
+    if 0x1F < b {
+        return 0;
+    }
+    control_letter(b)
 }
 
 // A lower-case hex digit.

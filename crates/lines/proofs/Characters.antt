@@ -1,19 +1,19 @@
 -- The character at the start of bytes: what `charLength` says of it by the rows, and that its bytes are
 -- there, well-formed, and 80 or above after the first.
 use mathlib.Core.Path.{_≡_, refl, sym, ap, _∙_}
-use Prim.Native.Nat.{ℕ, zero, suc, _≤_, zero-le, suc-le-suc}
+use Prim.Native.Nat.{ℕ, zero, suc, _≤_, _<_, zero-le, suc-le-suc}
 use native.Mathlib.Omega.{arith}
 use native.Mathlib.Numerals.{add-one}
 use mathlib.Core.Bool.{Bool, true, false, _&&_, cond}
 use mathlib.Core.Option.{Option, none, some}
 use mathlib.Core.List.{List, [], _∷_}
-use lib.ListN.{length, take, drop}
-use lib.Seq.{drop-drop}
+use lib.ListN.{length, take, drop, getD}
+use lib.Seq.{drop-drop, drop-cons}
 use lib.Dec.{leb, leb·suc-suc}
-use borrow.Author.Tests.{leb-true, le-leb, le-ltb, lt-ltb}
+use borrow.Author.Tests.{leb-true, le-leb, lt-leb, le-ltb, lt-ltb}
 use Rattle.lines.specs.Bytes.{Bytes, all, between}
 use Rattle.lines.specs.Utf8.{Range, range, within, Row, row, rows, headed, heads, after, well, utf8}
-use Rattle.lines.specs.CharSteps.{inAt, begins, lengthBy, charIn, charLength}
+use Rattle.lines.specs.CharSteps.{inAt, begins, lengthBy, charIn, longLength, charLength}
 use Rattle.lines.proofs.Bools.{by-cases, and-left, and-right, both, impossible}
 use Rattle.lines.proofs.Utf8Laws.{heads-high, high, highAfter, highByte}
 
@@ -39,13 +39,35 @@ unfolding charIn hasFirst follows
 row-taken [] t e = impossible e
 row-taken (row r rs ∷ qs) t e = rw e
 
--- the first k rows do not have the first byte: the rows from k on decide
-abbrev pub PastRows : ℕ → Bytes → Type 0
-PastRows k t = charLength t ≡ charIn (drop k rows) t
+-- the row of one byte has the first byte, or those of more decide
+pub one-byte : (t : Bytes) → inAt (range 0x00 0x7F) 0 t ≡ true → charLength t ≡ 1
+unfolding charLength charIn rows lengthBy begins
+one-byte t e = rw e
 
-pub past-none : (t : Bytes) → PastRows 0 t
-unfolding charLength
-past-none t = refl
+pub more-bytes : (t : Bytes) → inAt (range 0x00 0x7F) 0 t ≡ false → charLength t ≡ longLength t
+unfolding charLength longLength charIn rows
+more-bytes t e = rw e
+
+-- the first byte of what stands at an index tells which
+module _ (f : Bytes) (i : ℕ) (h : i < length f) where
+  ascii : inAt (range 0x00 0x7F) 0 (drop i f) ≡ leb (getD f i 0) 0x7F
+  unfolding inAt
+  ascii = rw (drop-cons f i 0 h, lt-ltb 0 (suc (length (drop (suc i) f))) (omega arith), le-leb 0 (getD f i 0) zero-le)
+
+  pub ascii-at : getD f i 0 ≤ 0x7F → charLength (drop i f) ≡ 1
+  ascii-at k = one-byte (drop i f) (ascii ∙ le-leb (getD f i 0) 0x7F k)
+
+  pub long-at : 0x7F < getD f i 0 → charLength (drop i f) ≡ longLength (drop i f)
+  long-at k = more-bytes (drop i f) (ascii ∙ lt-leb (getD f i 0) 0x7F k)
+
+-- the first k rows, of which the row of one byte is asked elsewhere, do not have the first byte: the rows from k on
+-- decide
+abbrev pub PastRows : ℕ → Bytes → Type 0
+PastRows k t = longLength t ≡ charIn (drop k rows) t
+
+pub past-first : (t : Bytes) → PastRows 1 t
+unfolding longLength
+past-first t = refl
 
 -- the row at k has the first byte or not, as a test says
 module _ (k : ℕ) (t : Bytes) (past : PastRows k t) {test : Bool} (asked : test ≡ hasFirst (drop k rows) t) where
@@ -54,7 +76,7 @@ module _ (k : ℕ) (t : Bytes) (past : PastRows k t) {test : Bool} (asked : test
       past ∙ row-left (drop k rows) t (sym asked ∙ e)
       ∙ ap (λ (qs : List Row). charIn qs t) (drop-drop 1 k rows ∙ ap (λ (n : ℕ). drop n rows) (add-one k))
 
-  pub row-decides : {n : ℕ} → test ≡ true → n ≡ lengthBy (follows (drop k rows)) t → n ≡ charLength t
+  pub row-decides : {n : ℕ} → test ≡ true → n ≡ lengthBy (follows (drop k rows)) t → n ≡ longLength t
   row-decides e f = f ∙ sym (past ∙ row-taken (drop k rows) t (sym asked ∙ e))
 
 -- the ranges asked one index after the other

@@ -7,18 +7,18 @@ use mathlib.Core.Bool.{Bool, true, false, not, cond}
 use mathlib.Core.List.{[], _∷_, _++_}
 use lib.ListN.{length, take, drop, getD, length-drop, take-append-drop}
 use lib.Seq.{drop-cons, take-add, take-all, length-take-le}
-use lib.Dec.{ltb, eqb, leb·zero, eqb·suc-zero}
-use borrow.Author.Tests.{ltb-false, not-false, leb-true, lt-leb, lt-ltb, le-ltb, ne-eqb}
+use lib.Dec.{leb, ltb, eqb, leb·zero, eqb·suc-zero}
+use borrow.Author.Tests.{ltb-false, not-false, leb-true, lt-leb, le-leb, lt-ltb, le-ltb, ne-eqb}
 use Rattle.lines.specs.Laws.{plain, Sound}
-use Rattle.lines.specs.Bytes.{Bytes, any, isLF, control, all, lineFeeds}
+use Rattle.lines.specs.Bytes.{Bytes, any, isLF, between, control, all, lineFeeds}
 use Rattle.lines.specs.Utf8.{utf8, well, longestStart}
-use Rattle.lines.specs.CharSteps.{charLength, lineAfter, controlAfter}
+use Rattle.lines.specs.CharSteps.{charLength, longLength, lineAfter, controlAfter}
 use Rattle.lines.specs.Answers.{accepted, refused}
 use Rattle.lines.specs.Files.{checkedFile, unterminated, size, lineAt, firstControl, checkedBytes}
 use Rattle.lines.proofs.Bools.{by-cases, clash, any-all, and-left, and-right, all-append, all-imp, not-true, impossible}
 use Rattle.lines.proofs.LineFeeds.{lineFeeds-append, lineFeeds-length}
 use Rattle.lines.proofs.Utf8Laws.{highByte, utf8-append}
-use Rattle.lines.proofs.Characters.{Character, character}
+use Rattle.lines.proofs.Characters.{Character, character, ascii-at, long-at}
 use Rattle.lines.proofs.LongestStart.{not-utf8, start-ends}
 
 -- ---- size
@@ -164,11 +164,43 @@ passed-more {f} {i} (suc k) p h e ne = record {
     more : take (i + suc k) f ≡ take i f ++ b ∷ t
     more = take-add i (suc k) f ∙ ap (λ (l : Bytes). take i f ++ take (suc k) l) (drop-cons f i 0 h)
 
+-- a character of one byte more
+pub passed-one : {f : Bytes} {i line found : ℕ} → Passed f i line found → i < length f → getD f i 0 ≤ 0x7F
+    → Passed f (i + 1) (lineAfter line (getD f i 0)) (controlAfter found line (getD f i 0))
+passed-one {f} {i} p h k = passed-more 1 p h (sym (ascii-at f i h k)) (λ e. absurd (omega arith))
+
+-- a character whose first byte is neither LF nor a control byte changes nothing else
+module _ {f : Bytes} {i line found : ℕ} (p : Passed f i line found) (h : i < length f) where
+  changes-nothing : (n : ℕ) → isLF (getD f i 0) ≡ false → control (getD f i 0) ≡ false
+      → Passed f (i + n) (lineAfter line (getD f i 0)) (controlAfter found line (getD f i 0)) → Passed f (i + n) line found
+  changes-nothing n l c q =
+      let m : lineAfter line (getD f i 0) ≡ line = rw l in
+      let s : controlAfter found line (getD f i 0) ≡ found = by-cases (eqb found 0) (λ z. rw (z, c)) (λ z. rw z) in
+      rw (← m, ← s) q
+
+  -- one of one byte, from 20 to 7E
+  pub passed-plain : between 0x20 0x7E (getD f i 0) ≡ true → Passed f (i + 1) line found
+  passed-plain w =
+      let b = getD f i 0 in
+      let low : 0x20 ≤ b = leb-true 0x20 b (and-left (leb 0x20 b) (leb b 0x7E) w) in
+      let top : b ≤ 0x7E = leb-true b 0x7E (and-right (leb 0x20 b) (leb b 0x7E) w) in
+      changes-nothing 1 (ne-eqb b 0x0A (λ z. omega arith))
+      (rw (leb·zero b, lt-leb b 0x1F (omega arith), ne-eqb b 0x7F (λ z. omega arith)))
+      (passed-one p h (omega arith))
+
+  -- a longer one
+  pub passed-long : (n : ℕ) → 0x7F < getD f i 0 → n ≡ longLength (drop i f) → (n ≡ 0 → ⊥) → Passed f (i + n) line found
+  passed-long n k e ne =
+      let b = getD f i 0 in
+      changes-nothing n (ne-eqb b 0x0A (λ z. omega arith)) (not-true (control b) (high-plain b (le-leb 0x80 b k)))
+      (passed-more n p h (e ∙ sym (long-at f i h k)) ne)
+
 -- no character stands there: refused with 3
-pub passed-broken : {f : Bytes} {i line found : ℕ} → Passed f i line found → i < length f → charLength (drop i f) ≡ 0
-    → checkedBytes f ≡ refused 3 line
+pub passed-broken : {f : Bytes} {i line found : ℕ} → Passed f i line found → i < length f → 0x7F < getD f i 0
+    → longLength (drop i f) ≡ 0 → checkedBytes f ≡ refused 3 line
 unfolding checkedBytes
-passed-broken {f} {i} p h e =
+passed-broken {f} {i} p h k z =
+    let e = long-at f i h k ∙ z in
     let u : utf8 f ≡ false =
     ap utf8 (sym (take-append-drop i f) ∙ ap (λ (l : Bytes). take i f ++ l) (drop-cons f i 0 h))
     ∙ not-utf8 (take i f) (getD f i 0) (drop (suc i) f) (p .legal) (ap charLength (sym (drop-cons f i 0 h)) ∙ e) in

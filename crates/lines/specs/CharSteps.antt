@@ -28,6 +28,11 @@ unfolding inAt lengthBy
 charIn [] t = 0
 charIn (row r rs ∷ qs) t = cond (inAt r 0 t) (lengthBy rs t) (charIn qs t)
 
+-- the same by the rows of two bytes and more
+unfoldable pub longLength : Bytes → ℕ
+unfolding charIn rows
+longLength t = charIn (drop 1 rows) t
+
 -- the same by all rows
 unfoldable pub charLength : Bytes → ℕ
 unfolding charIn rows

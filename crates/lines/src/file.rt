@@ -1,7 +1,8 @@
 // The check of a whole file, before its lines are read.
+use crate::bytes::is_between;
 use crate::bytes::is_control;
 use crate::error::Error;
-use crate::utf8::char_length;
+use crate::utf8::long_length;
 ghost use mathlib.Core.Path.{_≡_};
 ghost use Prim.Native.Nat.{_<_, _^_};
 ghost use lib.Dec.{ltb};
@@ -49,7 +50,8 @@ fn control_after(found: usize, line: usize, b: u8) -> usize
     found
 }
 
-// The bytes of a file: first UTF-8, then control bytes, in one pass from character to character.
+// The bytes of a file: first UTF-8, then control bytes, in one pass from character to character. Bytes 20 to 7E are
+// characters that change nothing else; only the other characters of one byte can be a control byte or an LF.
 fn check_bytes(file: &[u8]) -> Check
     ensures { λ r. ⌜ checkMeans r ≡ checkedBytes (now (file .entry)) ⌝ }
 {
@@ -57,14 +59,20 @@ fn check_bytes(file: &[u8]) -> Check
     let mut line = 1;
     let mut found = 0;
     while i < file.len() {
-        let n = char_length(&file[i..]);
-        if n == 0 {
-            return Check::Refused(Error::NotUtf8(line));
-        }
         let b = file[i];
-        found = control_after(found, line, b);
-        line = line_after(line, b);
-        i += n;
+        if is_between(0x20, 0x7E, b) {
+            i += 1;
+        } else if b <= 0x7F {
+            found = control_after(found, line, b);
+            line = line_after(line, b);
+            i += 1;
+        } else {
+            let n = long_length(&file[i..]);
+            if n == 0 {
+                return Check::Refused(Error::NotUtf8(line));
+            }
+            i += n;
+        }
     }
     if found == 0 {
         return Check::Accepted;

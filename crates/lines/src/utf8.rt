@@ -3,7 +3,7 @@ use crate::bytes::is_between;
 ghost use mathlib.Core.Path.{_≡_};
 ghost use mathlib.Core.List.{[], _∷_};
 ghost use Rattle.lines.specs.Utf8.{range, tail, longestStart};
-ghost use Rattle.lines.specs.CharSteps.{inAt, lengthBy, charLength};
+ghost use Rattle.lines.specs.CharSteps.{inAt, lengthBy, longLength, charLength};
 
 // The byte at `at` is there, and from `low` to `high`.
 fn in_range(text: &[u8], at: usize, low: u8, high: u8) -> bool
@@ -51,13 +51,10 @@ fn four(text: &[u8], low: u8, high: u8) -> usize
     0
 }
 
-// The length of the character at the start, 0 where none stands there: one test for each row.
-pub fn char_length(text: &[u8]) -> usize
-    ensures { λ r. ⌜ r ≡ charLength (now (text .entry)) ⌝ }
+// The length of the character of two to four bytes at the start, 0 where none stands there: one test for each row.
+pub fn long_length(text: &[u8]) -> usize
+    ensures { λ r. ⌜ r ≡ longLength (now (text .entry)) ⌝ }
 {
-    if in_range(text, 0, 0x00, 0x7F) {
-        return 1;
-    }
     if in_range(text, 0, 0xC2, 0xDF) {
         return two(text);
     }
@@ -83,6 +80,16 @@ pub fn char_length(text: &[u8]) -> usize
         return four(text, 0x80, 0x8F);
     }
     0
+}
+
+// The length of the character at the start, 0 where none stands there.
+fn char_length(text: &[u8]) -> usize
+    ensures { λ r. ⌜ r ≡ charLength (now (text .entry)) ⌝ }
+{
+    if in_range(text, 0, 0x00, 0x7F) {
+        return 1;
+    }
+    long_length(text)
 }
 
 // The length of the longest well-formed start.

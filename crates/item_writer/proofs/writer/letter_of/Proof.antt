@@ -1,72 +1,29 @@
--- `letter_of` is the list of letters, byte by byte.
-use borrow.Author.Tests.{ne-eqb}
+-- `letter_of` asks the signs first, and the control bytes where the byte may be one.
+use mathlib.Core.Path.{sym, _∙_}
+use borrow.Author.Needs.{needs}
 use Rattle.items.specs.Write.{letterOf}
+use Rattle.item_writer.proofs.Letters.{from-controls, above-controls}
 use Rattle.item_writer.proofs.writer.letter_of.Statement.{statement}
 use Rattle.item_writer.proofs.writer.letter_of.Tie as tie
 
 returns : tie.Need-returns
 unfolding letterOf
-returns c = rw (c .match .keys1)
+returns c = rw (c .if1 .taken)
 
 returns-2 : tie.Need-returns-2
 unfolding letterOf
-returns-2 c = rw (c .match .keys2)
+returns-2 c = rw (c .if2 .taken)
 
 returns-3 : tie.Need-returns-3
-unfolding letterOf
-returns-3 c = rw (c .match .keys3)
+returns-3 c = sym (from-controls _ (c .before .before .if1 .left) (c .before .if2 .left) ∙ above-controls _ (c .if3 .taken))
+
+control-letter-requires : tie.Need-control-letter-requires
+control-letter-requires c κs = search needs
 
 returns-4 : tie.Need-returns-4
-unfolding letterOf
-returns-4 c = rw (c .match .keys4)
-
-returns-5 : tie.Need-returns-5
-unfolding letterOf
-returns-5 c = rw (c .match .keys5)
-
-returns-6 : tie.Need-returns-6
-unfolding letterOf
-returns-6 c = rw (c .match .keys6)
-
-returns-7 : tie.Need-returns-7
-unfolding letterOf
-returns-7 c = rw (c .match .keys7)
-
-returns-8 : tie.Need-returns-8
-unfolding letterOf
-returns-8 c = rw (c .match .keys8)
-
-returns-9 : tie.Need-returns-9
-unfolding letterOf
-returns-9 c = rw (c .match .keys9)
-
-returns-10 : tie.Need-returns-10
-unfolding letterOf
-returns-10 c =
-    let n = c .match .rest in
-    simp (
-      ne-eqb _ _ (n .0 .0 .0 .0 .0 .0 .0 .0 .1),
-      ne-eqb _ _ (n .0 .0 .0 .0 .0 .0 .0 .1),
-      ne-eqb _ _ (n .0 .0 .0 .0 .0 .0 .1),
-      ne-eqb _ _ (n .0 .0 .0 .0 .0 .1),
-      ne-eqb _ _ (n .0 .0 .0 .0 .1),
-      ne-eqb _ _ (n .0 .0 .0 .1),
-      ne-eqb _ _ (n .0 .0 .1),
-      ne-eqb _ _ (n .0 .1),
-      ne-eqb _ _ (n .1),
-    )
+returns-4 c =
+    let e = c .before .before in
+    c .control-letter .ensures ∙ sym (from-controls _ (e .before .if1 .left) (e .if2 .left))
 
 pub letter-of-spec : {M : Type 1} → statement M
-letter-of-spec =
-    tie.close
-    (tie.spec
-    returns
-    returns-2
-    returns-3
-    returns-4
-    returns-5
-    returns-6
-    returns-7
-    returns-8
-    returns-9
-    returns-10)
+letter-of-spec = tie.close (tie.spec returns returns-2 returns-3 control-letter-requires returns-4)

@@ -6,9 +6,9 @@ use lib.ListN.{length, drop}
 use denote.Ref.{now}
 use borrow.Author.Needs.{needs}
 use borrow.Author.Tests.{eq-eqb, ne-eqb}
-use Rattle.lines.specs.CharSteps.{charLength}
+use Rattle.lines.specs.CharSteps.{longLength}
 use Rattle.lines.proofs.Slices.{part-from}
-use Rattle.lines.proofs.FileLaws.{Passed, passed-start, line-fits, passed-more, passed-broken, passed-ended}
+use Rattle.lines.proofs.FileLaws.{Passed, passed-start, line-fits, passed-one, passed-plain, passed-long, passed-broken, passed-ended}
 use Rattle.lines.proofs.file.check_bytes.Statement.{statement}
 use Rattle.lines.proofs.file.check_bytes.Tie as tie
 
@@ -21,31 +21,26 @@ abbrev μ-loop : tie.MeasureT-loop
 loop-holds : tie.Need-loop-holds Inv-loop μ-loop
 loop-holds c = passed-start (now (c .before .args .file))
 
-sub-char-length : tie.Need-sub-char-length Inv-loop μ-loop
-sub-char-length c = omega arith
-
-part-char-length-start : tie.Need-part-char-length-start Inv-loop μ-loop
-part-char-length-start c = search needs
-
-part-char-length-end : tie.Need-part-char-length-end Inv-loop μ-loop
-part-char-length-end c = search needs
-
-char-length-requires : tie.Need-char-length-requires Inv-loop μ-loop
-char-length-requires c κs = search needs
-
--- what the call tells of the bytes from i on
-seen : (c : tie.After-char-length Inv-loop μ-loop)
-    → c .char-length .result
-    ≡ charLength (drop (c .before .before .before .loop .i) (now (c .before .before .before .before .before .args .file)))
-seen c = c .char-length .ensures ∙ ap charLength (part-from (c .before .before .before .loop .i) _)
-
-returns : tie.Need-returns Inv-loop μ-loop
-returns c =
-    sym (passed-broken (c .before .before .before .before .loop .inv) (c .before .before .before .loop-test .taken)
-    (sym (seen (c .before)) ∙ c .if1 .taken))
-
 shared-slice-read-b : tie.Need-shared-slice-read-b Inv-loop μ-loop
 shared-slice-read-b c = omega arith
+
+-- ---- a byte from 20 to 7E
+
+is-between-requires : tie.Need-is-between-requires Inv-loop μ-loop
+is-between-requires c κs = search needs
+
+add-i : tie.Need-add-i Inv-loop μ-loop
+add-i c = omega (arith, c .before .before .before .before .before .before .good)
+
+loop-less : tie.Need-loop-less Inv-loop μ-loop
+loop-less c = omega (arith, c .before .before .before .loop-test .taken)
+
+loop-again : tie.Need-loop-again Inv-loop μ-loop
+loop-again c =
+    let t = c .before .before .before in
+    passed-plain (t .before .loop .inv) (t .loop-test .taken) (sym (c .before .is-between .ensures) ∙ c .if1 .taken)
+
+-- ---- another character of one byte
 
 control-after-requires : tie.Need-control-after-requires Inv-loop μ-loop
 control-after-requires c κs = search needs
@@ -55,31 +50,71 @@ line-after-requires c κs =
     let h = c .before .before .before .before .before .before in
     omega (arith, line-fits (h .loop .inv), h .before .before .good)
 
--- the invariant after a turn
-again : (c : tie.After-line-after Inv-loop μ-loop) →
-    let h = c .before .before .before .before .before .before .before in
-    Passed (now (h .before .before .args .file)) (h .loop .i + c .before .before .before .before .char-length .result)
-    (c .line-after .result) (c .before .control-after .result)
-again c =
-    let e = c .before .before .before .before in
+add-i-2 : tie.Need-add-i-2 Inv-loop μ-loop
+add-i-2 c = omega (arith, c .before .before .before .before .before .before .before .before .before .good)
+
+loop-less-2 : tie.Need-loop-less-2 Inv-loop μ-loop
+loop-less-2 c = omega (arith, c .before .before .before .before .before .before .loop-test .taken)
+
+loop-again-2 : tie.Need-loop-again-2 Inv-loop μ-loop
+loop-again-2 c =
+    let e = c .before .before in
+    let t = e .before .before .before .before in
     rw (c .line-after .ensures, c .before .control-after .ensures)
-    (passed-more (e .char-length .result) (e .before .before .before .loop .inv) (e .before .before .loop-test .taken)
-    (seen e) (c .before .before .before .if1 .left))
+    (passed-one (t .before .loop .inv) (t .loop-test .taken) (e .if2 .taken))
 
-add-i : tie.Need-add-i Inv-loop μ-loop
-add-i c = omega (arith, again c .inside)
+-- ---- a longer one
 
-loop-less : tie.Need-loop-less Inv-loop μ-loop
-loop-less c = omega (arith, again c .inside, c .before .before .before .if1 .left)
+sub-long-length : tie.Need-sub-long-length Inv-loop μ-loop
+sub-long-length c = omega arith
 
-loop-again : tie.Need-loop-again Inv-loop μ-loop
-loop-again c = again c
+part-long-length-start : tie.Need-part-long-length-start Inv-loop μ-loop
+part-long-length-start c = search needs
+
+part-long-length-end : tie.Need-part-long-length-end Inv-loop μ-loop
+part-long-length-end c = search needs
+
+long-length-requires : tie.Need-long-length-requires Inv-loop μ-loop
+long-length-requires c κs = search needs
+
+-- what the call tells of the bytes from i on
+seen : (c : tie.After-long-length Inv-loop μ-loop) →
+    let h = c .before .before .before .before .before .before .before in
+    c .long-length .result ≡ longLength (drop (h .loop .i) (now (h .before .before .args .file)))
+seen c =
+    let h = c .before .before .before .before .before .before .before in
+    c .long-length .ensures ∙ ap longLength (part-from (h .loop .i) _)
+
+returns : tie.Need-returns Inv-loop μ-loop
+returns c =
+    let e = c .before .before .before in
+    let t = e .before .before .before .before in
+    sym (passed-broken (t .before .loop .inv) (t .loop-test .taken) (e .if2 .left) (sym (seen (c .before)) ∙ c .if3 .taken))
+
+-- the invariant after such a turn
+again : (c : tie.Else3 Inv-loop μ-loop) →
+    let h = c .before .before .before .before .before .before .before .before in
+    Passed (now (h .before .before .args .file)) (h .loop .i + c .before .long-length .result) (h .loop .line) (h .loop .found)
+again c =
+    let e = c .before .before .before in
+    let t = e .before .before .before .before in
+    passed-long (t .before .loop .inv) (t .loop-test .taken) (c .before .long-length .result) (e .if2 .left)
+    (seen (c .before)) (c .if3 .left)
+
+add-i-3 : tie.Need-add-i-3 Inv-loop μ-loop
+add-i-3 c = omega (arith, again c .inside)
+
+loop-less-3 : tie.Need-loop-less-3 Inv-loop μ-loop
+loop-less-3 c = omega (arith, again c .inside, c .if3 .left)
+
+loop-again-3 : tie.Need-loop-again-3 Inv-loop μ-loop
+loop-again-3 c = again c
 
 returns-2 : tie.Need-returns-2 Inv-loop μ-loop
-returns-2 c = sym (passed-ended (c .before .before .loop .inv) (c .before .loop-test .left) ∙ rw (eq-eqb _ _ (c .if2 .taken)))
+returns-2 c = sym (passed-ended (c .before .before .loop .inv) (c .before .loop-test .left) ∙ rw (eq-eqb _ _ (c .if4 .taken)))
 
 returns-3 : tie.Need-returns-3 Inv-loop μ-loop
-returns-3 c = sym (passed-ended (c .before .before .loop .inv) (c .before .loop-test .left) ∙ rw (ne-eqb _ _ (c .if2 .left)))
+returns-3 c = sym (passed-ended (c .before .before .loop .inv) (c .before .loop-test .left) ∙ rw (ne-eqb _ _ (c .if4 .left)))
 
 pub check-bytes-spec : {M : Type 1} → statement M
 check-bytes-spec =
@@ -88,16 +123,23 @@ check-bytes-spec =
     Inv-loop
     μ-loop
     loop-holds
-    sub-char-length
-    part-char-length-start
-    part-char-length-end
-    char-length-requires
-    returns
     shared-slice-read-b
-    control-after-requires
-    line-after-requires
+    is-between-requires
     add-i
     loop-less
     loop-again
+    control-after-requires
+    line-after-requires
+    add-i-2
+    loop-less-2
+    loop-again-2
+    sub-long-length
+    part-long-length-start
+    part-long-length-end
+    long-length-requires
+    returns
+    add-i-3
+    loop-less-3
+    loop-again-3
     returns-2
     returns-3)
