@@ -94,7 +94,9 @@ fn written_outside(outcome: &Outcome) -> Option<String> {
     Some(format!("{name}: written outside by {}", outcome.side))
 }
 
-fn outcome_difference(left: &Outcome, right: &Outcome) -> Option<String> {
+/// What differs between two answers to the same case: the number, the report, a buffer, or a guard that the second has
+/// changed.
+pub fn outcome_difference(left: &Outcome, right: &Outcome) -> Option<String> {
     if left.number != right.number {
         return Some("the numbers differ".to_string());
     }
