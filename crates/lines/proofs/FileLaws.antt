@@ -1,6 +1,6 @@
 -- The check of a file: its size by its last byte, and what holds of a pass from character to character.
 -- The bytes after the first of a character are 80 or above, so only first bytes can be LF or a control byte.
-use mathlib.Core.Path.{_≡_, refl, sym, ap, _∙_}
+use mathlib.Core.Path.{_≡_, refl, sym, ap, subst, _∙_}
 use Prim.Native.Nat.{ℕ, zero, suc, _+_, _≤_, _<_, zero-le}
 use native.Mathlib.Omega.{arith}
 use mathlib.Core.Bool.{Bool, true, false, not, cond}
@@ -12,7 +12,7 @@ use borrow.Author.Tests.{ltb-false, not-false, leb-true, lt-leb, le-leb, lt-ltb,
 use Rattle.lines.specs.Laws.{plain, Sound}
 use Rattle.lines.specs.Bytes.{Bytes, any, isLF, between, control, all, lineFeeds}
 use Rattle.lines.specs.Utf8.{utf8, well, longestStart}
-use Rattle.lines.specs.CharSteps.{charLength, longLength, lineAfter, controlAfter}
+use Rattle.lines.specs.CharSteps.{charLength, longLength, controlAfter}
 use Rattle.lines.specs.Answers.{accepted, refused}
 use Rattle.lines.specs.Files.{checkedFile, unterminated, size, lineAt, firstControl, checkedBytes}
 use Rattle.lines.proofs.Bools.{by-cases, clash, any-all, and-left, and-right, all-append, all-imp, not-true, impossible}
@@ -68,6 +68,10 @@ high-feeds (b ∷ l) h =
     rw (ne-eqb b 0x0A (omega arith)) (high-feeds l (and-right (highByte b) (all highByte l) h))
 
 -- ---- lines
+
+-- the line of what follows a byte
+abbrev lineAfter : ℕ → ℕ → ℕ
+lineAfter line b = cond (isLF b) (line + 1) line
 
 -- a character more
 feeds-more : (a : Bytes) (b : ℕ) (t : Bytes) → all highByte t ≡ true
@@ -164,36 +168,42 @@ passed-more {f} {i} (suc k) p h e ne = record {
     more : take (i + suc k) f ≡ take i f ++ b ∷ t
     more = take-add i (suc k) f ∙ ap (λ (l : Bytes). take i f ++ take (suc k) l) (drop-cons f i 0 h)
 
--- a character of one byte more
-pub passed-one : {f : Bytes} {i line found : ℕ} → Passed f i line found → i < length f → getD f i 0 ≤ 0x7F
-    → Passed f (i + 1) (lineAfter line (getD f i 0)) (controlAfter found line (getD f i 0))
-passed-one {f} {i} p h k = passed-more 1 p h (sym (ascii-at f i h k)) (λ e. absurd (omega arith))
-
--- a character whose first byte is neither LF nor a control byte changes nothing else
+-- the same by the first byte of the character
 module _ {f : Bytes} {i line found : ℕ} (p : Passed f i line found) (h : i < length f) where
-  changes-nothing : (n : ℕ) → isLF (getD f i 0) ≡ false → control (getD f i 0) ≡ false
-      → Passed f (i + n) (lineAfter line (getD f i 0)) (controlAfter found line (getD f i 0)) → Passed f (i + n) line found
-  changes-nothing n l c q =
-      let m : lineAfter line (getD f i 0) ≡ line = rw l in
-      let s : controlAfter found line (getD f i 0) ≡ found = by-cases (eqb found 0) (λ z. rw (z, c)) (λ z. rw z) in
-      rw (← m, ← s) q
+  abbrev b : ℕ
+  b = getD f i 0
 
-  -- one of one byte, from 20 to 7E
+  one : b ≤ 0x7F → Passed f (i + 1) (lineAfter line b) (controlAfter found line b)
+  one k = passed-more 1 p h (sym (ascii-at f i h k)) (λ e. absurd (omega arith))
+
+  no-control : control b ≡ false → controlAfter found line b ≡ found
+  no-control c = by-cases (eqb found 0) (λ z. rw (z, c)) (λ z. rw z)
+
+  no-feed : (b ≡ 0x0A → ⊥) → lineAfter line b ≡ line
+  no-feed ne = rw (ne-eqb b 0x0A ne)
+
+  -- from 20 to 7E
   pub passed-plain : between 0x20 0x7E (getD f i 0) ≡ true → Passed f (i + 1) line found
   passed-plain w =
-      let b = getD f i 0 in
       let low : 0x20 ≤ b = leb-true 0x20 b (and-left (leb 0x20 b) (leb b 0x7E) w) in
       let top : b ≤ 0x7E = leb-true b 0x7E (and-right (leb 0x20 b) (leb b 0x7E) w) in
-      changes-nothing 1 (ne-eqb b 0x0A (λ z. omega arith))
-      (rw (leb·zero b, lt-leb b 0x1F (omega arith), ne-eqb b 0x7F (λ z. omega arith)))
-      (passed-one p h (omega arith))
+      let c : control b ≡ false = rw (leb·zero b, lt-leb b 0x1F (omega arith), ne-eqb b 0x7F (λ z. omega arith)) in
+      rw (← no-feed (λ z. omega arith), ← no-control c) (one (omega arith))
 
-  -- a longer one
+  pub passed-feed : getD f i 0 ≡ 0x0A → Passed f (i + 1) (line + 1) found
+  passed-feed e =
+      let l : lineAfter line b ≡ line + 1 = rw e in
+      let c : control b ≡ false = rw e in
+      rw (← l, ← no-control c) (one (omega (arith, e)))
+
+  pub passed-other : (getD f i 0 ≡ 0x0A → ⊥) → getD f i 0 ≤ 0x7F → Passed f (i + 1) line (controlAfter found line (getD f i 0))
+  passed-other ne k = subst (λ (l : ℕ). Passed f (i + 1) l (controlAfter found line b)) (no-feed ne) (one k)
+
+  -- 80 and above
   pub passed-long : (n : ℕ) → 0x7F < getD f i 0 → n ≡ longLength (drop i f) → (n ≡ 0 → ⊥) → Passed f (i + n) line found
   passed-long n k e ne =
-      let b = getD f i 0 in
-      changes-nothing n (ne-eqb b 0x0A (λ z. omega arith)) (not-true (control b) (high-plain b (le-leb 0x80 b k)))
-      (passed-more n p h (e ∙ sym (long-at f i h k)) ne)
+      let c = not-true (control b) (high-plain b (le-leb 0x80 b k)) in
+      rw (← no-feed (λ z. omega arith), ← no-control c) (passed-more n p h (e ∙ sym (long-at f i h k)) ne)
 
 -- no character stands there: refused with 3
 pub passed-broken : {f : Bytes} {i line found : ℕ} → Passed f i line found → i < length f → 0x7F < getD f i 0

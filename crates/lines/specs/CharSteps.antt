@@ -1,10 +1,10 @@
 -- Steps of the passes over bytes. No public promise cites this file.
-use Prim.Native.Nat.{ℕ, suc, _+_}
+use Prim.Native.Nat.{ℕ, suc}
 use mathlib.Core.Bool.{Bool, true, false, _&&_, cond}
 use mathlib.Core.List.{List, [], _∷_}
 use lib.ListN.{length, getD, drop}
 use lib.Dec.{ltb, eqb}
-use Rattle.lines.specs.Bytes.{Bytes, isLF, control}
+use Rattle.lines.specs.Bytes.{Bytes, control}
 use Rattle.lines.specs.Utf8.{Range, within, Row, row, rows}
 
 -- the byte at index i is there and in the range
@@ -39,10 +39,6 @@ unfolding charIn rows
 charLength t = charIn rows t
 
 -- ---- the check of a file
-
--- the line number of the byte after b
-abbrev pub lineAfter : ℕ → ℕ → ℕ
-lineAfter line b = cond (isLF b) (line + 1) line
 
 -- the line of the first control byte, 0 while there is none
 abbrev pub controlAfter : ℕ → ℕ → ℕ → ℕ

@@ -4,10 +4,9 @@ use crate::bytes::is_control;
 use crate::error::Error;
 use crate::utf8::long_length;
 ghost use mathlib.Core.Path.{_≡_};
-ghost use Prim.Native.Nat.{_<_, _^_};
 ghost use lib.Dec.{ltb};
 ghost use Rattle.lines.specs.Files.{size, checkedBytes, checkedFile, checkMeans};
-ghost use Rattle.lines.specs.CharSteps.{lineAfter, controlAfter};
+ghost use Rattle.lines.specs.CharSteps.{controlAfter};
 
 pub enum Check {
     Accepted,
@@ -27,17 +26,6 @@ fn too_long(file: &[u8]) -> bool
     file[65534] != b'\n'
 }
 
-// The line of what follows the byte b.
-fn line_after(line: usize, b: u8) -> usize
-    requires { ⌜ line < 2 ^ 63 ⌝ }
-    ensures { λ r. ⌜ r ≡ lineAfter line b ⌝ }
-{
-    if b == b'\n' {
-        return line + 1;
-    }
-    line
-}
-
 // The line of the first control byte, where `found` is that of the bytes before b; 0 is none.
 fn control_after(found: usize, line: usize, b: u8) -> usize
     ensures { λ r. ⌜ r ≡ controlAfter found line b ⌝ }
@@ -51,7 +39,7 @@ fn control_after(found: usize, line: usize, b: u8) -> usize
 }
 
 // The bytes of a file: first UTF-8, then control bytes, in one pass from character to character. Bytes 20 to 7E are
-// characters that change nothing else; only the other characters of one byte can be a control byte or an LF.
+// characters that change nothing else; only the other characters of one byte can be an LF or a control byte.
 fn check_bytes(file: &[u8]) -> Check
     ensures { λ r. ⌜ checkMeans r ≡ checkedBytes (now (file .entry)) ⌝ }
 {
@@ -62,9 +50,11 @@ fn check_bytes(file: &[u8]) -> Check
         let b = file[i];
         if is_between(0x20, 0x7E, b) {
             i += 1;
+        } else if b == b'\n' {
+            line += 1;
+            i += 1;
         } else if b <= 0x7F {
             found = control_after(found, line, b);
-            line = line_after(line, b);
             i += 1;
         } else {
             let n = long_length(&file[i..]);

@@ -1,10 +1,12 @@
 // The sections in the order of their names, so that the section of a name is found with few comparisons: first by the
-// first eight bytes of a name as one number, then by its length, then byte for byte. The order is a buffer with two
-// numbers for each section, that one and the section's index.
+// first four and the last four bytes of a name as one number, then by its length, then byte for byte. The order is a
+// buffer of these numbers, one for each section, and behind the place of the 64th of them the sections' indexes.
 // It is only a guess where to look: nothing is promised of what the buffer has, and any numbers may stand in it.
 // Whoever takes the guess looks whether the name stands there.
-ghost use Prim.Native.Nat.{_+_, _*_, _≤_};
+ghost use Prim.Native.Nat.{_+_, _*_, _≤_, _<_};
 ghost use lib.ListN.{length};
+
+const MOST_SECTIONS: usize = 64;
 
 // ---- comparisons
 
@@ -12,18 +14,28 @@ fn wide(b: u8) -> usize {
     b as usize
 }
 
-// The first eight bytes of a name as one number, or all of them where there are fewer.
-fn first_bytes(name: &[u8]) -> usize {
+// Four bytes of a name as one number, from an index on, or what there is of them.
+fn four_bytes(name: &[u8], start: usize) -> usize
+    requires { ⌜ start ≤ length (now name) ⌝ }
+{
     let mut number = 0;
     let mut i = 0;
-    while i < 8 {
-        if name.len() <= i {
+    while i < 4 {
+        if name.len() - start <= i {
             return number;
         }
-        number = (number << 8) | wide(name[i]);
+        number = (number << 8) | wide(name[start + i]);
         i += 1;
     }
     number
+}
+
+// The first four and the last four bytes of a name. Of a name of up to eight bytes these are all.
+fn end_bytes(name: &[u8]) -> usize {
+    if name.len() < 4 {
+        return four_bytes(name, 0);
+    }
+    (four_bytes(name, 0) << 32) | four_bytes(name, name.len() - 4)
 }
 
 // How many bytes at the front of both are the same, by blocks of eight.
@@ -54,7 +66,7 @@ fn is_smaller(a: &[u8], b: &[u8]) -> bool
     false
 }
 
-// Whether the section with this index stands before a name that has the same first bytes.
+// Whether the section with this index stands before a name that has the same number.
 fn is_before(index: usize, name: &[u8], text: &[u8], sections: &[usize], count: usize) -> bool
     requires { ⌜ 2 * count ≤ length (now sections) ⌝ }
 {
@@ -66,7 +78,6 @@ fn is_before(index: usize, name: &[u8], text: &[u8], sections: &[usize], count: 
     if length != name.len() {
         return length < name.len();
     }
-    // The first eight bytes are all.
     if length <= 8 {
         return false;
     }
@@ -76,12 +87,63 @@ fn is_before(index: usize, name: &[u8], text: &[u8], sections: &[usize], count: 
     if text.len() - start < length {
         return false;
     }
-    is_smaller(&text[start + 8..start + length], &name[8..])
+    is_smaller(&text[start + 4..start + length - 4], &name[4..length - 4])
 }
 
 // ---- the order
 
-// Where in the order the numbers of a name stand, or belong.
+// 1 where a is below b, else 0: the sign of their difference. It is right for numbers below 2^63, as those of names are;
+// of others it says nothing.
+fn is_below(a: usize, b: usize) -> usize
+    ensures { λ r. ⌜ r ≤ 1 ⌝ }
+{
+    std::num::wrapping_sub_usize(a, b) / 0x8000000000000000
+}
+
+// The first place of the order whose number is not below this one. Half of what is left is passed over or not at each
+// turn, by a product and no branch: so names that come in any order cost no more than others.
+fn first_not_below(number: usize, count: usize, order: &[usize]) -> usize
+    requires { ⌜ count ≤ length (now order) ⌝ }
+    ensures { λ r. ⌜ r ≤ count ⌝ }
+{
+    let mut first = 0;
+    let mut left = count;
+    while 0 < left {
+        let half = left - left / 2;
+        first += half * is_below(order[first + half - 1], number);
+        left = left / 2;
+    }
+    first
+}
+
+// Where a name stands, or belongs, among the places from `first` on that have its number.
+fn place_among(
+    first: usize,
+    number: usize,
+    name: &[u8],
+    text: &[u8],
+    sections: &[usize],
+    count: usize,
+    order: &[usize],
+) -> usize
+    requires { ⌜ (first ≤ count) × (2 * count ≤ length (now sections)) × (count ≤ 64) × (128 ≤ length (now order)) ⌝ }
+{
+    let mut low = first;
+    let mut high = count;
+    while low < high {
+        let middle = low + (high - low) / 2;
+        if order[middle] != number {
+            high = middle;
+        } else if is_before(order[MOST_SECTIONS + middle], name, text, sections, count) {
+            low = middle + 1;
+        } else {
+            high = middle;
+        }
+    }
+    low
+}
+
+// Where in the order a name stands, or belongs.
 pub(crate) fn guess_place(
     name: &[u8],
     text: &[u8],
@@ -89,48 +151,40 @@ pub(crate) fn guess_place(
     count: usize,
     order: &[usize],
 ) -> usize
-    requires { ⌜ (2 * count ≤ length (now sections)) × (2 * count ≤ length (now order)) ⌝ }
+    requires { ⌜ (2 * count ≤ length (now sections)) × (count ≤ 64) × (128 ≤ length (now order)) ⌝ }
 {
-    let number = first_bytes(name);
-    let mut low = 0;
-    let mut high = count;
-    while low < high {
-        let middle = low + (high - low) / 2;
-        let other = order[2 * middle];
-        let before = if other == number {
-            is_before(order[2 * middle + 1], name, text, sections, count)
-        } else {
-            other < number
-        };
-        if before {
-            low = middle + 1;
-        } else {
-            high = middle;
-        }
+    let number = end_bytes(name);
+    let first = first_not_below(number, count, order);
+    if count <= first + 1 {
+        return first;
     }
-    2 * low
+    if order[first + 1] != number {
+        return first;
+    }
+    place_among(first, number, name, text, sections, count, order)
 }
 
-// The index of the section whose numbers stand at a place of the order.
+// The index of the section at a place of the order.
 pub(crate) fn section_at(place: usize, order: &[usize]) -> usize
     requires { ⌜ 128 ≤ length (now order) ⌝ }
 {
-    if 127 <= place {
-        return 64;
+    if MOST_SECTIONS <= place {
+        return MOST_SECTIONS;
     }
-    order[place + 1]
+    order[MOST_SECTIONS + place]
 }
 
-// The numbers of a new section, whose index is the number of those before it, come to a place of the order. Those from
-// there on move up.
+// A new section, whose index is the number of those before it, comes to a place of the order. Those from there on move
+// up.
 pub(crate) fn put_in_order(name: &[u8], place: usize, count: usize, order: &mut [usize])
-    requires { ⌜ 2 * count + 2 ≤ length (now order) ⌝ }
+    requires { ⌜ (count < 64) × (128 ≤ length (now order)) ⌝ }
 {
-    let mut i = 2 * count;
+    let mut i = count;
     while place < i {
+        order[i] = order[i - 1];
+        order[MOST_SECTIONS + i] = order[MOST_SECTIONS + i - 1];
         i -= 1;
-        order[i + 2] = order[i];
     }
-    order[i] = first_bytes(name);
-    order[i + 1] = count;
+    order[i] = end_bytes(name);
+    order[MOST_SECTIONS + i] = count;
 }

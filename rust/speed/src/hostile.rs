@@ -1,5 +1,7 @@
 //! Files of the full size that ask for much work a byte.
 
+use compare::random::Random;
+
 use crate::files::FULL;
 
 /// A shape: its name, its file, and the number that a call answers to it.
@@ -28,6 +30,7 @@ fn repeated(piece: &[u8]) -> Vec<u8> {
 pub fn shapes() -> Vec<Shape> {
     let mut shapes = vec![
         accepted("only LF", repeated(b"\n")),
+        accepted("a space, LF", repeated(b" \n")),
         accepted("lines of 4,096 blanks", lines_of_blanks()),
         accepted("only comments: `#`, LF", repeated(b"#\n")),
         accepted("only a comment of 65,534 bytes", one_comment()),
@@ -45,7 +48,14 @@ pub fn shapes() -> Vec<Shape> {
     ];
     for length in [1, 2, 8, 9, 16, 100, 1_000] {
         let name = format!("64 names that differ in their last byte, {length} long");
-        shapes.push(accepted(&name, names(length)));
+        shapes.push(accepted(
+            &name,
+            repeated(&headers(length, length - 1).concat()),
+        ));
+    }
+    for (length, at) in [(1, 0), (2, 1), (9, 8), (9, 4), (100, 50)] {
+        let name = format!("64 names that differ in byte {at}, {length} long, in a drawn order");
+        shapes.push(accepted(&name, drawn(&headers(length, at))));
     }
     shapes
 }
@@ -76,12 +86,27 @@ fn over_comments() -> Vec<u8> {
     file
 }
 
-/// Headers of 64 names in turn, the same but for their last byte.
-fn names(length: usize) -> Vec<u8> {
-    let last = (b'!'..=b'z').filter(|last| !b"[]".contains(last)).take(64);
-    let header = |last| [&vec![b'n'; length - 1][..], &[last, b']', b'\n']].concat();
-    let headers = last.map(|last| [&b"["[..], &header(last)].concat());
-    repeated(&headers.collect::<Vec<_>>().concat())
+/// The headers of 64 names that are the same but for the byte at this offset.
+fn headers(length: usize, at: usize) -> Vec<Vec<u8>> {
+    let mut name = vec![b'n'; length];
+    let bytes = (b'!'..=b'z').filter(|byte| !b"[]".contains(byte)).take(64);
+    bytes
+        .map(|byte| {
+            name[at] = byte;
+            [b"[", &name[..], b"]\n"].concat()
+        })
+        .collect()
+}
+
+/// All of these headers, and then any of them again and again.
+fn drawn(headers: &[Vec<u8>]) -> Vec<u8> {
+    let mut random = Random::new(12);
+    let mut file = headers.concat();
+    while file.len() + headers[0].len() <= FULL {
+        file.extend(random.pick(headers));
+    }
+    file.resize(FULL, b'\n');
+    file
 }
 
 #[cfg(test)]
@@ -99,15 +124,17 @@ mod tests {
     }
 
     #[test]
-    fn names_are_sixty_four_and_apart_in_their_last_byte() {
-        for length in [1, 2, 9, 1_000] {
-            let table = havtsulen::Table::read(&names(length)).expect("it is accepted");
+    fn names_are_sixty_four_and_apart_in_one_byte() {
+        for (length, at) in [(1, 0), (2, 1), (9, 4), (1_000, 999)] {
+            let file = drawn(&headers(length, at));
+            let table = havtsulen::Table::read(&file).expect("it is accepted");
             let names: Vec<&[u8]> = table.sections().collect();
             assert_eq!(names.len(), 64);
-            assert!(names.iter().all(|name| name.len() == length));
-            assert!(names
-                .iter()
-                .all(|name| name[..length - 1] == names[0][..length - 1]));
+            for name in &names {
+                assert_eq!(name.len(), length);
+                assert_eq!(name[..at], names[0][..at]);
+                assert_eq!(name[at + 1..], names[0][at + 1..]);
+            }
         }
     }
 }

@@ -8,7 +8,7 @@ use borrow.Author.Needs.{needs}
 use borrow.Author.Tests.{eq-eqb, ne-eqb}
 use Rattle.lines.specs.CharSteps.{longLength}
 use Rattle.lines.proofs.Slices.{part-from}
-use Rattle.lines.proofs.FileLaws.{Passed, passed-start, line-fits, passed-one, passed-plain, passed-long, passed-broken, passed-ended}
+use Rattle.lines.proofs.FileLaws.{Passed, passed-start, line-fits, passed-plain, passed-feed, passed-other, passed-long, passed-broken, passed-ended}
 use Rattle.lines.proofs.file.check_bytes.Statement.{statement}
 use Rattle.lines.proofs.file.check_bytes.Tie as tie
 
@@ -40,28 +40,41 @@ loop-again c =
     let t = c .before .before .before in
     passed-plain (t .before .loop .inv) (t .loop-test .taken) (sym (c .before .is-between .ensures) ∙ c .if1 .taken)
 
+-- ---- an LF
+
+add-line : tie.Need-add-line Inv-loop μ-loop
+add-line c =
+    let h = c .before .before .before .before .before in
+    omega (arith, line-fits (h .loop .inv), h .before .before .good)
+
+add-i-2 : tie.Need-add-i-2 Inv-loop μ-loop
+add-i-2 c = omega (arith, c .before .before .before .before .before .before .before .good)
+
+loop-less-2 : tie.Need-loop-less-2 Inv-loop μ-loop
+loop-less-2 c = omega (arith, c .before .before .before .before .loop-test .taken)
+
+loop-again-2 : tie.Need-loop-again-2 Inv-loop μ-loop
+loop-again-2 c =
+    let t = c .before .before .before .before in
+    passed-feed (t .before .loop .inv) (t .loop-test .taken) (c .if2 .taken)
+
 -- ---- another character of one byte
 
 control-after-requires : tie.Need-control-after-requires Inv-loop μ-loop
 control-after-requires c κs = search needs
 
-line-after-requires : tie.Need-line-after-requires Inv-loop μ-loop
-line-after-requires c κs =
-    let h = c .before .before .before .before .before .before in
-    omega (arith, line-fits (h .loop .inv), h .before .before .good)
+add-i-3 : tie.Need-add-i-3 Inv-loop μ-loop
+add-i-3 c = omega (arith, c .before .before .before .before .before .before .before .before .before .good)
 
-add-i-2 : tie.Need-add-i-2 Inv-loop μ-loop
-add-i-2 c = omega (arith, c .before .before .before .before .before .before .before .before .before .good)
+loop-less-3 : tie.Need-loop-less-3 Inv-loop μ-loop
+loop-less-3 c = omega (arith, c .before .before .before .before .before .before .loop-test .taken)
 
-loop-less-2 : tie.Need-loop-less-2 Inv-loop μ-loop
-loop-less-2 c = omega (arith, c .before .before .before .before .before .before .loop-test .taken)
-
-loop-again-2 : tie.Need-loop-again-2 Inv-loop μ-loop
-loop-again-2 c =
+loop-again-3 : tie.Need-loop-again-3 Inv-loop μ-loop
+loop-again-3 c =
     let e = c .before .before in
     let t = e .before .before .before .before in
-    rw (c .line-after .ensures, c .before .control-after .ensures)
-    (passed-one (t .before .loop .inv) (t .loop-test .taken) (e .if2 .taken))
+    rw (c .control-after .ensures)
+    (passed-other (t .before .loop .inv) (t .loop-test .taken) (e .if2 .left) (c .before .if3 .taken))
 
 -- ---- a longer one
 
@@ -79,42 +92,42 @@ long-length-requires c κs = search needs
 
 -- what the call tells of the bytes from i on
 seen : (c : tie.After-long-length Inv-loop μ-loop) →
-    let h = c .before .before .before .before .before .before .before in
+    let h = c .before .before .before .before .before .before .before .before in
     c .long-length .result ≡ longLength (drop (h .loop .i) (now (h .before .before .args .file)))
 seen c =
-    let h = c .before .before .before .before .before .before .before in
+    let h = c .before .before .before .before .before .before .before .before in
     c .long-length .ensures ∙ ap longLength (part-from (h .loop .i) _)
 
 returns : tie.Need-returns Inv-loop μ-loop
 returns c =
     let e = c .before .before .before in
-    let t = e .before .before .before .before in
-    sym (passed-broken (t .before .loop .inv) (t .loop-test .taken) (e .if2 .left) (sym (seen (c .before)) ∙ c .if3 .taken))
+    let t = e .before .before .before .before .before in
+    sym (passed-broken (t .before .loop .inv) (t .loop-test .taken) (e .if3 .left) (sym (seen (c .before)) ∙ c .if4 .taken))
 
 -- the invariant after such a turn
-again : (c : tie.Else3 Inv-loop μ-loop) →
-    let h = c .before .before .before .before .before .before .before .before in
+again : (c : tie.Else4 Inv-loop μ-loop) →
+    let h = c .before .before .before .before .before .before .before .before .before in
     Passed (now (h .before .before .args .file)) (h .loop .i + c .before .long-length .result) (h .loop .line) (h .loop .found)
 again c =
     let e = c .before .before .before in
-    let t = e .before .before .before .before in
-    passed-long (t .before .loop .inv) (t .loop-test .taken) (c .before .long-length .result) (e .if2 .left)
-    (seen (c .before)) (c .if3 .left)
+    let t = e .before .before .before .before .before in
+    passed-long (t .before .loop .inv) (t .loop-test .taken) (c .before .long-length .result) (e .if3 .left)
+    (seen (c .before)) (c .if4 .left)
 
-add-i-3 : tie.Need-add-i-3 Inv-loop μ-loop
-add-i-3 c = omega (arith, again c .inside)
+add-i-4 : tie.Need-add-i-4 Inv-loop μ-loop
+add-i-4 c = omega (arith, again c .inside)
 
-loop-less-3 : tie.Need-loop-less-3 Inv-loop μ-loop
-loop-less-3 c = omega (arith, again c .inside, c .if3 .left)
+loop-less-4 : tie.Need-loop-less-4 Inv-loop μ-loop
+loop-less-4 c = omega (arith, again c .inside, c .if4 .left)
 
-loop-again-3 : tie.Need-loop-again-3 Inv-loop μ-loop
-loop-again-3 c = again c
+loop-again-4 : tie.Need-loop-again-4 Inv-loop μ-loop
+loop-again-4 c = again c
 
 returns-2 : tie.Need-returns-2 Inv-loop μ-loop
-returns-2 c = sym (passed-ended (c .before .before .loop .inv) (c .before .loop-test .left) ∙ rw (eq-eqb _ _ (c .if4 .taken)))
+returns-2 c = sym (passed-ended (c .before .before .loop .inv) (c .before .loop-test .left) ∙ rw (eq-eqb _ _ (c .if5 .taken)))
 
 returns-3 : tie.Need-returns-3 Inv-loop μ-loop
-returns-3 c = sym (passed-ended (c .before .before .loop .inv) (c .before .loop-test .left) ∙ rw (ne-eqb _ _ (c .if4 .left)))
+returns-3 c = sym (passed-ended (c .before .before .loop .inv) (c .before .loop-test .left) ∙ rw (ne-eqb _ _ (c .if5 .left)))
 
 pub check-bytes-spec : {M : Type 1} → statement M
 check-bytes-spec =
@@ -128,18 +141,21 @@ check-bytes-spec =
     add-i
     loop-less
     loop-again
-    control-after-requires
-    line-after-requires
+    add-line
     add-i-2
     loop-less-2
     loop-again-2
+    control-after-requires
+    add-i-3
+    loop-less-3
+    loop-again-3
     sub-long-length
     part-long-length-start
     part-long-length-end
     long-length-requires
     returns
-    add-i-3
-    loop-less-3
-    loop-again-3
+    add-i-4
+    loop-less-4
+    loop-again-4
     returns-2
     returns-3)

@@ -1,6 +1,6 @@
 -- `put_in_order`: the numbers moved are inside the order.
 use mathlib.Core.Path.{_≡_, refl}
-use Prim.Native.Nat.{_*_, _≤_}
+use Prim.Native.Nat.{_≤_}
 use native.Mathlib.Omega.{arith}
 use lib.ListN.{length, length-set}
 use borrow.Author.Needs.{needs}
@@ -8,19 +8,16 @@ use Rattle.table.proofs.order.put_in_order.Statement.{statement}
 use Rattle.table.proofs.order.put_in_order.Tie as tie
 
 abbrev Inv-loop : tie.InvT-loop
-Inv-loop name place count order₀ i₀ order i = (i ≤ 2 * count) × (length order ≡ length order₀)
+Inv-loop name place count order₀ i₀ order i = (i ≤ count) × (length order ≡ length order₀)
 
 abbrev μ-loop : tie.MeasureT-loop
 μ-loop name place count order₀ i₀ order i = i
 
-mul-i : tie.Need-mul-i Inv-loop μ-loop
-mul-i c = search needs
-
 loop-holds : tie.Need-loop-holds Inv-loop μ-loop
 loop-holds c = (omega arith, refl)
 
-sub-i : tie.Need-sub-i Inv-loop μ-loop
-sub-i c = search needs
+sub-order : tie.Need-sub-order Inv-loop μ-loop
+sub-order c = search needs
 
 mul-order : tie.Need-mul-order Inv-loop μ-loop
 mul-order c = search needs
@@ -28,29 +25,23 @@ mul-order c = search needs
 slice-read-order : tie.Need-slice-read-order Inv-loop μ-loop
 slice-read-order c = search needs
 
-add-order : tie.Need-add-order Inv-loop μ-loop
-add-order c = search needs
-
 mul-order-2 : tie.Need-mul-order-2 Inv-loop μ-loop
 mul-order-2 c = search needs
 
 slice-write-order : tie.Need-slice-write-order Inv-loop μ-loop
 slice-write-order c = search needs
 
-loop-less : tie.Need-loop-less Inv-loop μ-loop
-loop-less c = search needs
+add-order : tie.Need-add-order Inv-loop μ-loop
+add-order c = search needs
 
-loop-again : tie.Need-loop-again Inv-loop μ-loop
-loop-again c = (omega arith, search needs)
-
-first-bytes-requires : tie.Need-first-bytes-requires Inv-loop μ-loop
-first-bytes-requires c κs = search needs
+sub-order-2 : tie.Need-sub-order-2 Inv-loop μ-loop
+sub-order-2 c = search needs
 
 mul-order-3 : tie.Need-mul-order-3 Inv-loop μ-loop
 mul-order-3 c = search needs
 
-slice-write-order-2 : tie.Need-slice-write-order-2 Inv-loop μ-loop
-slice-write-order-2 c = search needs
+slice-read-order-2 : tie.Need-slice-read-order-2 Inv-loop μ-loop
+slice-read-order-2 c = simp length-set (omega arith)
 
 add-order-2 : tie.Need-add-order-2 Inv-loop μ-loop
 add-order-2 c = search needs
@@ -58,8 +49,35 @@ add-order-2 c = search needs
 mul-order-4 : tie.Need-mul-order-4 Inv-loop μ-loop
 mul-order-4 c = search needs
 
+slice-write-order-2 : tie.Need-slice-write-order-2 Inv-loop μ-loop
+slice-write-order-2 c = simp length-set (omega arith)
+
+sub-i : tie.Need-sub-i Inv-loop μ-loop
+sub-i c = search needs
+
+loop-less : tie.Need-loop-less Inv-loop μ-loop
+loop-less c = search needs
+
+loop-again : tie.Need-loop-again Inv-loop μ-loop
+loop-again c = (omega arith, search needs)
+
+end-bytes-requires : tie.Need-end-bytes-requires Inv-loop μ-loop
+end-bytes-requires c κs = search needs
+
+mul-order-5 : tie.Need-mul-order-5 Inv-loop μ-loop
+mul-order-5 c = search needs
+
 slice-write-order-3 : tie.Need-slice-write-order-3 Inv-loop μ-loop
-slice-write-order-3 c = simp length-set (omega arith)
+slice-write-order-3 c = search needs
+
+add-order-3 : tie.Need-add-order-3 Inv-loop μ-loop
+add-order-3 c = search needs
+
+mul-order-6 : tie.Need-mul-order-6 Inv-loop μ-loop
+mul-order-6 c = search needs
+
+slice-write-order-4 : tie.Need-slice-write-order-4 Inv-loop μ-loop
+slice-write-order-4 c = simp length-set (omega arith)
 
 same-length : tie.Need-same-length Inv-loop μ-loop
 same-length c = search needs
@@ -73,21 +91,27 @@ put-in-order-spec =
     (tie.spec
     Inv-loop
     μ-loop
-    mul-i
     loop-holds
-    sub-i
+    sub-order
     mul-order
     slice-read-order
-    add-order
     mul-order-2
     slice-write-order
-    loop-less
-    loop-again
-    first-bytes-requires
+    add-order
+    sub-order-2
     mul-order-3
-    slice-write-order-2
+    slice-read-order-2
     add-order-2
     mul-order-4
+    slice-write-order-2
+    sub-i
+    loop-less
+    loop-again
+    end-bytes-requires
+    mul-order-5
     slice-write-order-3
+    add-order-3
+    mul-order-6
+    slice-write-order-4
     same-length
     returns)

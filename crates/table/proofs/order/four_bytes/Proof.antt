@@ -1,21 +1,27 @@
--- `first_bytes`: at most eight bytes.
+-- `four_bytes`: at most four bytes.
 use Prim.Native.Nat.{_-_, _≤_}
 use native.Mathlib.Omega.{arith}
 use borrow.Author.Needs.{needs}
-use Rattle.table.proofs.order.first_bytes.Statement.{statement}
-use Rattle.table.proofs.order.first_bytes.Tie as tie
+use Rattle.table.proofs.order.four_bytes.Statement.{statement}
+use Rattle.table.proofs.order.four_bytes.Tie as tie
 
 abbrev Inv-loop : tie.InvT-loop
-Inv-loop name number₀ i₀ number i = i ≤ 8
+Inv-loop name start number₀ i₀ number i = i ≤ 4
 
 abbrev μ-loop : tie.MeasureT-loop
-μ-loop name number₀ i₀ number i = 8 - i
+μ-loop name start number₀ i₀ number i = 4 - i
 
 loop-holds : tie.Need-loop-holds Inv-loop μ-loop
 loop-holds c = omega arith
 
+sub-if1 : tie.Need-sub-if1 Inv-loop μ-loop
+sub-if1 c = search needs
+
 returns : tie.Need-returns Inv-loop μ-loop
 returns c = search needs
+
+add-wide : tie.Need-add-wide Inv-loop μ-loop
+add-wide c = search needs
 
 shared-slice-read-wide : tie.Need-shared-slice-read-wide Inv-loop μ-loop
 shared-slice-read-wide c = search needs
@@ -35,14 +41,16 @@ loop-again c = search needs
 returns-2 : tie.Need-returns-2 Inv-loop μ-loop
 returns-2 c = search needs
 
-pub first-bytes-spec : {M : Type 1} → statement M
-first-bytes-spec =
+pub four-bytes-spec : {M : Type 1} → statement M
+four-bytes-spec =
     tie.close
     (tie.spec
     Inv-loop
     μ-loop
     loop-holds
+    sub-if1
     returns
+    add-wide
     shared-slice-read-wide
     wide-requires
     add-i
