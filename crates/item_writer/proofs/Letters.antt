@@ -1,10 +1,14 @@
 -- The letter of a byte inside quotes: the two signs apart from the control bytes.
 use mathlib.Core.Path.{_≡_}
-use Prim.Native.Nat.{ℕ, _<_}
+use Prim.Native.Nat.{ℕ, _≤_}
 use native.Mathlib.Omega.{arith}
 use mathlib.Core.Option.{none}
 use mathlib.Core.List.{_++_}
-use borrow.Author.Tests.{ne-eqb}
+use lib.Dec.{leb}
+use mathlib.Core.Bool.{true}
+use borrow.Author.Tests.{leb-true, ne-eqb}
+use Rattle.lines.specs.Bytes.{between}
+use Rattle.lines.proofs.Bools.{and-left}
 use Rattle.items.specs.Escapes.{controlLetters, signLetters}
 use Rattle.items.specs.Write.{letterOf}
 
@@ -14,10 +18,11 @@ pub from-controls : (b : ℕ) → (b ≡ 0x5C → ⊥) → (b ≡ 0x22 → ⊥)
 unfolding letterOf
 from-controls b s q = rw (ne-eqb b 0x5C s, ne-eqb b 0x22 q)
 
--- which is none for a byte above them
-pub above-controls : (b : ℕ) → 0x1F < b → letterOf controlLetters b ≡ none
+-- which is none for a byte from 20 to 7E
+pub above-controls : (b : ℕ) → between 0x20 0x7E b ≡ true → letterOf controlLetters b ≡ none
 unfolding letterOf
-above-controls b h =
+above-controls b w =
+    let low : 0x20 ≤ b = leb-true 0x20 b (and-left (leb 0x20 b) (leb b 0x7E) w) in
     simp (
       ne-eqb b 0x07 (λ e. omega arith),
       ne-eqb b 0x08 (λ e. omega arith),

@@ -127,8 +127,8 @@ fn control_letter(b: u8) -> u8
     }
 }
 
-// The letter of any byte that has a letter escape, the two signs among them; 0 where it has none. Most bytes are no
-// control bytes, and are told by comparisons alone.
+// The letter of any byte that has a letter escape, the two signs among them; 0 where it has none. Most bytes are 20 to 7E,
+// and are told by comparisons alone.
 fn letter_of(b: u8) -> u8
     ensures { λ r. ⌜ letterMeans r ≡ letterOf (controlLetters ++ signLetters) b ⌝ }
 {
@@ -138,7 +138,7 @@ fn letter_of(b: u8) -> u8
     if b == b'"' {
         return b;
     }
-    if 0x1F < b {
+    if is_between(0x20, 0x7E, b) {
         return 0;
     }
     control_letter(b)

@@ -1,6 +1,7 @@
-// The sections in the order of their names, so that the section of a name is found with few comparisons: first by the
-// first four and the last four bytes of a name as one number, then by its length, then byte for byte. The order is a
-// buffer of these numbers, one for each section, and behind the place of the 64th of them the sections' indexes.
+// The sections in the order of their names, so that the section of a name is found with few comparisons: first by a
+// number made of the first four and the last four bytes of a name and of its length, then by its length, then byte for
+// byte. The order is a buffer of these numbers, one for each section, and behind the place of the 64th of them the
+// sections' indexes.
 // It is only a guess where to look: nothing is promised of what the buffer has, and any numbers may stand in it.
 // Whoever takes the guess looks whether the name stands there.
 ghost use Prim.Native.Nat.{_+_, _*_, _≤_, _<_};
@@ -14,7 +15,7 @@ fn wide(b: u8) -> usize {
     b as usize
 }
 
-// Four bytes of a name as one number, from an index on, or what there is of them.
+// Four bytes of a name as one number, from an index on, or what there is of them. A byte of a name has seven bits.
 fn four_bytes(name: &[u8], start: usize) -> usize
     requires { ⌜ start ≤ length (now name) ⌝ }
 {
@@ -24,18 +25,24 @@ fn four_bytes(name: &[u8], start: usize) -> usize
         if name.len() - start <= i {
             return number;
         }
-        number = (number << 8) | wide(name[start + i]);
+        number = (number << 7) | wide(name[start + i]);
         i += 1;
     }
     number
 }
 
-// The first four and the last four bytes of a name. Of a name of up to eight bytes these are all.
+// The first four and the last four bytes of a name.
 fn end_bytes(name: &[u8]) -> usize {
     if name.len() < 4 {
         return four_bytes(name, 0);
     }
-    (four_bytes(name, 0) << 32) | four_bytes(name, name.len() - 4)
+    (four_bytes(name, 0) << 28) | four_bytes(name, name.len() - 4)
+}
+
+// The number of a name: 56 bits of its ends and seven of its length. Names of up to eight bytes with the same number are
+// the same.
+fn number_of(name: &[u8]) -> usize {
+    (end_bytes(name) << 7) | name.len() % 128
 }
 
 // How many bytes at the front of both are the same, by blocks of eight.
@@ -78,6 +85,7 @@ fn is_before(index: usize, name: &[u8], text: &[u8], sections: &[usize], count: 
     if length != name.len() {
         return length < name.len();
     }
+    // The same number and the same length: the same name.
     if length <= 8 {
         return false;
     }
@@ -127,6 +135,7 @@ fn place_among(
     order: &[usize],
 ) -> usize
     requires { ⌜ (first ≤ count) × (2 * count ≤ length (now sections)) × (count ≤ 64) × (128 ≤ length (now order)) ⌝ }
+    ensures { λ r. ⌜ r ≤ count ⌝ }
 {
     let mut low = first;
     let mut high = count;
@@ -143,29 +152,8 @@ fn place_among(
     low
 }
 
-// Where in the order a name stands, or belongs.
-pub(crate) fn guess_place(
-    name: &[u8],
-    text: &[u8],
-    sections: &[usize],
-    count: usize,
-    order: &[usize],
-) -> usize
-    requires { ⌜ (2 * count ≤ length (now sections)) × (count ≤ 64) × (128 ≤ length (now order)) ⌝ }
-{
-    let number = end_bytes(name);
-    let first = first_not_below(number, count, order);
-    if count <= first + 1 {
-        return first;
-    }
-    if order[first + 1] != number {
-        return first;
-    }
-    place_among(first, number, name, text, sections, count, order)
-}
-
 // The index of the section at a place of the order.
-pub(crate) fn section_at(place: usize, order: &[usize]) -> usize
+fn section_at(place: usize, order: &[usize]) -> usize
     requires { ⌜ 128 ≤ length (now order) ⌝ }
 {
     if MOST_SECTIONS <= place {
@@ -174,9 +162,31 @@ pub(crate) fn section_at(place: usize, order: &[usize]) -> usize
     order[MOST_SECTIONS + place]
 }
 
-// A new section, whose index is the number of those before it, comes to a place of the order. Those from there on move
-// up.
-pub(crate) fn put_in_order(name: &[u8], place: usize, count: usize, order: &mut [usize])
+// The index of the section that has a name, if one has it. Where no more than one section has the name's number, that one
+// is meant.
+pub(crate) fn guess_section(
+    name: &[u8],
+    text: &[u8],
+    sections: &[usize],
+    count: usize,
+    order: &[usize],
+) -> usize
+    requires { ⌜ (2 * count ≤ length (now sections)) × (count ≤ 64) × (128 ≤ length (now order)) ⌝ }
+{
+    let number = number_of(name);
+    let first = first_not_below(number, count, order);
+    if count <= first + 1 {
+        return section_at(first, order);
+    }
+    if order[first + 1] != number {
+        return section_at(first, order);
+    }
+    let place = place_among(first, number, name, text, sections, count, order);
+    section_at(place, order)
+}
+
+// The places of the order from one on move up.
+fn make_space(place: usize, count: usize, order: &mut [usize])
     requires { ⌜ (count < 64) × (128 ≤ length (now order)) ⌝ }
 {
     let mut i = count;
@@ -185,6 +195,22 @@ pub(crate) fn put_in_order(name: &[u8], place: usize, count: usize, order: &mut 
         order[MOST_SECTIONS + i] = order[MOST_SECTIONS + i - 1];
         i -= 1;
     }
-    order[i] = end_bytes(name);
-    order[MOST_SECTIONS + i] = count;
+}
+
+// A new section, whose index is the number of those before it, comes to its place of the order.
+pub(crate) fn put_in_order(
+    name: &[u8],
+    text: &[u8],
+    sections: &[usize],
+    count: usize,
+    order: &mut [usize],
+)
+    requires { ⌜ (2 * count ≤ length (now sections)) × (count < 64) × (128 ≤ length (now order)) ⌝ }
+{
+    let number = number_of(name);
+    let first = first_not_below(number, count, order);
+    let place = place_among(first, number, name, text, sections, count, order);
+    make_space(place, count, order);
+    order[place] = number;
+    order[MOST_SECTIONS + place] = count;
 }

@@ -1,8 +1,7 @@
 // The sections that a table has so far.
 use crate::error::Error;
-use crate::order::guess_place;
+use crate::order::guess_section;
 use crate::order::put_in_order;
-use crate::order::section_at;
 use crate::state::State;
 use crate::state::Step;
 ghost use mathlib.Core.Path.{_≡_};
@@ -83,8 +82,7 @@ pub(crate) fn open_section(
     ensures { λ r. ⌜ TakesHeader (header (now (name .entry))) number state (now (text .entry)) (now (sections .entry)) r (now (text .exit)) (now (sections .exit)) ⌝ }
 {
     let count = state.sections;
-    let place = guess_place(name, text, sections, count, order);
-    let guess = section_at(place, order);
+    let guess = guess_section(name, text, sections, count, order);
     let index = find_section(name, text, sections, count, guess);
     if index < count {
         return Step::Go(State {
@@ -97,6 +95,6 @@ pub(crate) fn open_section(
     if 64 <= count {
         return Step::Refused(Error::TooMany(number));
     }
-    put_in_order(name, place, count, order);
+    put_in_order(name, text, sections, count, order);
     Step::Go(put_section(name, state, text, sections))
 }

@@ -8,7 +8,7 @@ pub const FULL: usize = 65_535;
 const SMALL: usize = 600;
 /// The most entries of a file.
 const ENTRIES: usize = 512;
-/// The most bytes of a value with its key: below the limit of a line.
+/// The most bytes of a value: with its key it is below the limit of a line.
 const LONGEST: usize = 4_000;
 
 /// A kind of file: its name, how many there are, their size, and how the next line is drawn.
@@ -19,9 +19,11 @@ struct Kind {
     line: fn(&mut Random) -> Line,
 }
 
-/// One logical line with the comments inside it.
+/// The next bytes of a file, whole physical lines.
 enum Line {
+    /// An entry, with the lines that it is joined of and the comments between them.
     Entry(Vec<u8>),
+    /// A header, a comment or a blank line.
     Other(Vec<u8>),
 }
 
@@ -135,16 +137,21 @@ fn joined(random: &mut Random) -> Line {
     }
     let mut line = entry(random, 40);
     for _ in 0..random.between(1, 11) {
-        line.pop();
-        line.extend_from_slice(b" \\\n");
-        if random.one_in(3) {
-            line.extend(comment(random, 40));
-        }
-        line.extend(random.blanks(8));
-        line.extend(words(random, 60));
-        line.push(b'\n');
+        go_on(random, &mut line, 60);
     }
     Line::Entry(line)
+}
+
+/// Joins another physical line, perhaps behind a comment.
+fn go_on(random: &mut Random, line: &mut Vec<u8>, most: usize) {
+    line.pop();
+    line.extend_from_slice(b" \\\n");
+    if random.one_in(3) {
+        line.extend(comment(random, 40));
+    }
+    line.extend(random.blanks(8));
+    line.extend(words(random, most));
+    line.push(b'\n');
 }
 
 /// Words in other scripts.
@@ -192,10 +199,7 @@ fn short_or_commented(random: &mut Random) -> Line {
 
 fn joined_once(random: &mut Random) -> Line {
     let mut line = entry(random, 30);
-    line.pop();
-    line.extend_from_slice(b" \\\n  ");
-    line.extend(words(random, 30));
-    line.push(b'\n');
+    go_on(random, &mut line, 30);
     Line::Entry(line)
 }
 

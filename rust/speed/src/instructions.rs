@@ -39,7 +39,7 @@ pub fn run_each_once(mut tables: Vec<Table>) {
     }
 }
 
-/// The counts of all rows, two for each, or none where callgrind is not there.
+/// The counts of all rows, two for each; an error where callgrind is not there.
 pub fn counts() -> io::Result<Vec<[u64; 2]>> {
     let folder = env::temp_dir().join(format!("speed-{}", id()));
     fs::create_dir(&folder)?;

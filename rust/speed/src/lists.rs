@@ -17,11 +17,16 @@ const TEXTS: [(&str, Draw); 6] = [
     ("quoted items of 1 to 30 bytes", quoted),
     ("escapes of one letter in quotes", letters),
     ("escapes with digits, bare", digits),
-    ("one bare item", |random| random.word(BARE, FULL)),
+    ("one bare item of 4,096 bytes", |random| {
+        random.word(BARE, FULL)
+    }),
     ("256 empty items", |_| b"\"\"".to_vec()),
 ];
 
 const BARE: &[u8] = b"abcdefghijklmnopqrstuvwxyzABCDEFGH0123456789-_./:@%,+";
+
+/// Letters, and a space for every fifth.
+const SPACED: &[u8] = b"abc defgh ijklm nopq";
 
 /// Texts to split, by kind.
 pub fn texts() -> Vec<(&'static str, Vec<Vec<u8>>)> {
@@ -55,7 +60,7 @@ fn bare(random: &mut Random) -> Vec<u8> {
 fn quoted(random: &mut Random) -> Vec<u8> {
     let quote = random.pick(&[&b"\""[..], b"'"]);
     let length = random.between(1, 30);
-    [quote, &random.word(b"abc defgh ijklm nopq", length), quote].concat()
+    [quote, &random.word(SPACED, length), quote].concat()
 }
 
 fn letters(random: &mut Random) -> Vec<u8> {
@@ -88,52 +93,82 @@ pub struct Items {
     pub length: usize,
 }
 
-/// How the bytes of items to write are drawn: the most of an item, and an alphabet.
-const WRITTEN: [(&str, usize, &[u8]); 5] = [
-    ("bare items of 1 to 30 bytes", 30, BARE),
-    ("quoted items without escapes", 30, b"abc defgh ijklm nopq"),
-    (
-        "quoted items, escapes of one letter",
-        15,
-        b"\x07\x08\x0c\n\r\t\x0b\\\"",
-    ),
-    (
-        "quoted items, all bytes \\x",
-        8,
-        b"\x01\x02\x1f\x7f\x80\xc3\xff",
-    ),
-    ("one quoted item", 4_000, b"abc defgh ijklm nopq"),
+/// A kind of items to write: its name, the most items, and how the bytes of one are drawn.
+type Kind = (&'static str, usize, Draw);
+
+const KINDS: [Kind; 5] = [
+    ("bare items of 1 to 30 bytes", ITEMS, bare),
+    ("quoted items without escapes", ITEMS, |random| {
+        let length = random.between(1, 29);
+        [b" ", &random.word(SPACED, length)[..]].concat()
+    }),
+    ("quoted items, escapes of one letter", ITEMS, |random| {
+        let length = random.between(1, 15);
+        random.word(b"\x07\x08\x0c\n\r\t\x0b\\\"", length)
+    }),
+    ("quoted items, all bytes `\\x`", ITEMS, |random| {
+        let length = random.between(1, 8);
+        random.word(b"\x01\x02\x1f\x7f\x80\xc3\xff", length)
+    }),
+    ("one quoted item of 4,094 bytes", 1, |random| {
+        [b" ", &random.word(SPACED, FULL - 3)[..]].concat()
+    }),
 ];
 
 /// Lists to write, by kind.
 pub fn items() -> Vec<(&'static str, Vec<Items>)> {
     let mut random = Random::new(11);
-    let drawn = |&(name, most, alphabet): &(&'static str, usize, &[u8])| {
-        let lists = (0..COUNT).map(|_| list(&mut random, most, alphabet));
+    let drawn = |&(name, most, draw): &Kind| {
+        let lists = (0..COUNT).map(|_| list(&mut random, most, draw));
         (name, lists.collect())
     };
-    WRITTEN.iter().map(drawn).collect()
+    KINDS.iter().map(drawn).collect()
 }
 
-/// As many items as can be written.
-fn list(random: &mut Random, most: usize, alphabet: &[u8]) -> Items {
+/// As many items as can be written, up to so many.
+fn list(random: &mut Random, most: usize, draw: Draw) -> Items {
     let (mut bytes, mut ends) = (Vec::new(), Vec::new());
     let mut out = [0; FULL];
     let mut length = 0;
-    loop {
-        let size = random.between(1.max(most / 30), most);
-        bytes.extend(random.word(alphabet, size));
+    for _ in 0..most {
+        bytes.extend(draw(random));
         ends.push(bytes.len());
         match havtsulen::write(&bytes, &ends, &mut out) {
             Ok(written) => length = written,
             Err(_) => {
                 ends.pop();
                 bytes.truncate(ends.last().copied().unwrap_or(0));
-                return Items {
-                    bytes,
-                    ends,
-                    length,
-                };
+                break;
+            }
+        }
+    }
+    Items {
+        bytes,
+        ends,
+        length,
+    }
+}
+
+#[cfg(test)]
+mod tests {
+    use super::*;
+
+    #[test]
+    fn lists_to_write_are_of_their_kind() {
+        for (name, lists) in items() {
+            for Items {
+                bytes,
+                ends,
+                length,
+            } in lists
+            {
+                let mut out = [0; FULL];
+                assert_eq!(havtsulen::write(&bytes, &ends, &mut out), Ok(length));
+                assert!(length > FULL * 9 / 10, "{name}: {length}");
+                assert_eq!(ends.len() == 1, name.starts_with("one"), "{name}");
+                let quotes = out[..length].iter().filter(|&&byte| byte == b'"').count();
+                assert_eq!(quotes == 0, name.starts_with("bare"), "{name}");
+                assert!(quotes == 0 || quotes >= 2 * ends.len(), "{name}");
             }
         }
     }

@@ -13,6 +13,7 @@ pub struct Measured {
 }
 
 impl Measured {
+    /// A row's times and counts.
     pub fn new(row: &Row, nanoseconds: [f64; 2], counts: Option<[u64; 2]>) -> Measured {
         Measured {
             inputs: row.inputs.len(),
@@ -22,6 +23,7 @@ impl Measured {
         }
     }
 
+    /// Both together.
     pub fn plus(self, other: Measured) -> Measured {
         Measured {
             inputs: self.inputs + other.inputs,
@@ -31,10 +33,12 @@ impl Measured {
         }
     }
 
+    /// Nanoseconds for a byte.
     pub fn times_per_byte(self) -> [f64; 2] {
         self.nanoseconds.map(|time| time / self.bytes as f64)
     }
 
+    /// Instructions for a byte, where they were counted.
     pub fn counts_per_byte(self) -> Option<[f64; 2]> {
         let counted = self.counts[1] > 0;
         counted.then(|| self.counts.map(|count| count as f64 / self.bytes as f64))

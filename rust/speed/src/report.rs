@@ -12,7 +12,7 @@ use crate::timing::Timed;
 const MOST_OVER_PLAIN: f64 = 2.0;
 const MOST_OVER_HUNDRED: f64 = 3.0;
 
-/// What a table comes to, for the last one.
+/// What a table comes to, for the table that is printed last.
 struct Figure {
     what: String,
     most: f64,
@@ -29,6 +29,9 @@ pub fn print(mut tables: Vec<Table>, rounds: usize) -> Result<(), String> {
         Vec::new()
     });
     let times = time(&mut tables, rounds)?;
+    if !counts.is_empty() && counts.len() != times.len() {
+        return Err(format!("{} counts of {} rows", counts.len(), times.len()));
+    }
     println!("{}, least of {rounds} rounds\n", processor());
     let mut figures = times
         .into_iter()

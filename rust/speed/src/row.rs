@@ -54,13 +54,13 @@ pub struct Row {
 }
 
 impl Row {
-    /// Calls that are all accepted.
-    pub fn accepted(name: &str, call: Call, inputs: Vec<Input>) -> Row {
+    /// Calls that are all answered with this number.
+    pub fn new(name: &str, call: Call, inputs: Vec<Input>, number: usize) -> Row {
         Row {
             name: name.to_string(),
             call,
             inputs,
-            number: 0,
+            number,
         }
     }
 
@@ -76,6 +76,7 @@ pub struct Bench {
 }
 
 impl Bench {
+    /// Buffers of the stated sizes.
     pub fn new(call: Call) -> Bench {
         Bench {
             lent: plain_case(call, &[]).lend(),

@@ -60,11 +60,14 @@ fn time_both(
             number
         })
     });
-    if let Some(what) = outcome_difference(&outcomes[0], &outcomes[1]) {
+    let [first, second] = &outcomes;
+    let difference =
+        outcome_difference(first, second).or_else(|| outcome_difference(second, first));
+    if let Some(what) = difference {
         return Err(what);
     }
-    if outcomes[0].number != Some(number) {
-        return Err(format!("{} instead of {number}", outcomes[0]));
+    if first.number != Some(number) {
+        return Err(format!("{first} instead of {number}"));
     }
     Ok(taken)
 }

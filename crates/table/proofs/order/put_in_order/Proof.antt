@@ -1,117 +1,55 @@
--- `put_in_order`: the numbers moved are inside the order.
-use mathlib.Core.Path.{_≡_, refl}
-use Prim.Native.Nat.{_≤_}
+-- `put_in_order`: the place is inside the order.
 use native.Mathlib.Omega.{arith}
-use lib.ListN.{length, length-set}
+use lib.ListN.{length-set}
 use borrow.Author.Needs.{needs}
 use Rattle.table.proofs.order.put_in_order.Statement.{statement}
 use Rattle.table.proofs.order.put_in_order.Tie as tie
 
-abbrev Inv-loop : tie.InvT-loop
-Inv-loop name place count order₀ i₀ order i = (i ≤ count) × (length order ≡ length order₀)
+number-of-requires : tie.Need-number-of-requires
+number-of-requires c κs = search needs
 
-abbrev μ-loop : tie.MeasureT-loop
-μ-loop name place count order₀ i₀ order i = i
+first-not-below-requires : tie.Need-first-not-below-requires
+first-not-below-requires c κs = search needs
 
-loop-holds : tie.Need-loop-holds Inv-loop μ-loop
-loop-holds c = (omega arith, refl)
+place-among-requires : tie.Need-place-among-requires
+place-among-requires c κs = search needs
 
-sub-order : tie.Need-sub-order Inv-loop μ-loop
-sub-order c = search needs
+make-space-requires : tie.Need-make-space-requires
+make-space-requires c κs = search needs
 
-mul-order : tie.Need-mul-order Inv-loop μ-loop
+mul-order : tie.Need-mul-order
 mul-order c = search needs
 
-slice-read-order : tie.Need-slice-read-order Inv-loop μ-loop
-slice-read-order c = search needs
-
-mul-order-2 : tie.Need-mul-order-2 Inv-loop μ-loop
-mul-order-2 c = search needs
-
-slice-write-order : tie.Need-slice-write-order Inv-loop μ-loop
+slice-write-order : tie.Need-slice-write-order
 slice-write-order c = search needs
 
-add-order : tie.Need-add-order Inv-loop μ-loop
+add-order : tie.Need-add-order
 add-order c = search needs
 
-sub-order-2 : tie.Need-sub-order-2 Inv-loop μ-loop
-sub-order-2 c = search needs
+mul-order-2 : tie.Need-mul-order-2
+mul-order-2 c = search needs
 
-mul-order-3 : tie.Need-mul-order-3 Inv-loop μ-loop
-mul-order-3 c = search needs
-
-slice-read-order-2 : tie.Need-slice-read-order-2 Inv-loop μ-loop
-slice-read-order-2 c = simp length-set (omega arith)
-
-add-order-2 : tie.Need-add-order-2 Inv-loop μ-loop
-add-order-2 c = search needs
-
-mul-order-4 : tie.Need-mul-order-4 Inv-loop μ-loop
-mul-order-4 c = search needs
-
-slice-write-order-2 : tie.Need-slice-write-order-2 Inv-loop μ-loop
+slice-write-order-2 : tie.Need-slice-write-order-2
 slice-write-order-2 c = simp length-set (omega arith)
 
-sub-i : tie.Need-sub-i Inv-loop μ-loop
-sub-i c = search needs
-
-loop-less : tie.Need-loop-less Inv-loop μ-loop
-loop-less c = search needs
-
-loop-again : tie.Need-loop-again Inv-loop μ-loop
-loop-again c = (omega arith, search needs)
-
-end-bytes-requires : tie.Need-end-bytes-requires Inv-loop μ-loop
-end-bytes-requires c κs = search needs
-
-mul-order-5 : tie.Need-mul-order-5 Inv-loop μ-loop
-mul-order-5 c = search needs
-
-slice-write-order-3 : tie.Need-slice-write-order-3 Inv-loop μ-loop
-slice-write-order-3 c = search needs
-
-add-order-3 : tie.Need-add-order-3 Inv-loop μ-loop
-add-order-3 c = search needs
-
-mul-order-6 : tie.Need-mul-order-6 Inv-loop μ-loop
-mul-order-6 c = search needs
-
-slice-write-order-4 : tie.Need-slice-write-order-4 Inv-loop μ-loop
-slice-write-order-4 c = simp length-set (omega arith)
-
-same-length : tie.Need-same-length Inv-loop μ-loop
+same-length : tie.Need-same-length
 same-length c = search needs
 
-returns : tie.Need-returns Inv-loop μ-loop
+returns : tie.Need-returns
 returns c = search needs
 
 pub put-in-order-spec : {M : Type 1} → statement M
 put-in-order-spec =
     tie.close
     (tie.spec
-    Inv-loop
-    μ-loop
-    loop-holds
-    sub-order
+    number-of-requires
+    first-not-below-requires
+    place-among-requires
+    make-space-requires
     mul-order
-    slice-read-order
-    mul-order-2
     slice-write-order
     add-order
-    sub-order-2
-    mul-order-3
-    slice-read-order-2
-    add-order-2
-    mul-order-4
+    mul-order-2
     slice-write-order-2
-    sub-i
-    loop-less
-    loop-again
-    end-bytes-requires
-    mul-order-5
-    slice-write-order-3
-    add-order-3
-    mul-order-6
-    slice-write-order-4
     same-length
     returns)

@@ -4,17 +4,14 @@ use borrow.Author.Needs.{needs}
 use Rattle.table.proofs.sections.open_section.Statement.{statement}
 use Rattle.table.proofs.sections.open_section.Tie as tie
 
-guess-place-requires : tie.Need-guess-place-requires
-guess-place-requires c κs = search needs
-
-section-at-requires : tie.Need-section-at-requires
-section-at-requires c κs = search needs
+guess-section-requires : tie.Need-guess-section-requires
+guess-section-requires c κs = search needs
 
 find-section-requires : tie.Need-find-section-requires
 find-section-requires c κs = search needs
 
-add-t24 : tie.Need-add-t24
-add-t24 c = search needs
+add-t21 : tie.Need-add-t21
+add-t21 c = search needs
 
 same-length : tie.Need-same-length
 same-length c = search needs
@@ -57,7 +54,7 @@ same-length-9 c = search needs
 
 returns-3 : tie.Need-returns-3
 returns-3 c = let p = c .before .before .before .before in
-    let e = p .before .before .before .before .before .before .before in
+    let e = p .before .before .before .before .before .before .before .before .before in
     let f = e .before .before in
     header-new _ _ _ _ _ (f .find-section .result) (f .find-section .ensures) (e .before .if1 .left) (e .if2 .left) (p .put-section .result) _ _ (p .put-section .ensures)
 
@@ -65,10 +62,9 @@ pub open-section-spec : {M : Type 1} → statement M
 open-section-spec =
     tie.close
     (tie.spec
-    guess-place-requires
-    section-at-requires
+    guess-section-requires
     find-section-requires
-    add-t24
+    add-t21
     same-length
     same-length-2
     same-length-3
