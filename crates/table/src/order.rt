@@ -4,8 +4,11 @@
 // sections' indexes.
 // It is only a guess where to look: nothing is promised of what the buffer has, and any numbers may stand in it.
 // Whoever takes the guess looks whether the name stands there.
-ghost use Prim.Native.Nat.{_+_, _*_, _≤_, _<_};
+ghost use mathlib.Core.Path.{_≡_};
+ghost use mathlib.Core.Bool.{cond};
+ghost use Prim.Native.Nat.{_+_, _*_, _^_, _≤_, _<_};
 ghost use lib.ListN.{length};
+ghost use lib.Dec.{ltb};
 
 const MOST_SECTIONS: usize = 64;
 
@@ -100,10 +103,11 @@ fn is_before(index: usize, name: &[u8], text: &[u8], sections: &[usize], count: 
 
 // ---- the order
 
-// 1 where a is below b, else 0: the sign of their difference. It is right for numbers below 2^63, as those of names are;
-// of others it says nothing.
+// 1 where a is below b, else 0: the sign of their difference, for numbers below 2^63, as those of names are. Of others it
+// is 1 or 0.
 fn is_below(a: usize, b: usize) -> usize
-    ensures { λ r. ⌜ r ≤ 1 ⌝ }
+    ensures bit { λ r. ⌜ r ≤ 1 ⌝ }
+    ensures sign { λ r. ⌜ (a < 2 ^ 63 → b < 2 ^ 63 → r ≡ cond (ltb a b) 1 0) ⌝ }
 {
     std::num::wrapping_sub_usize(a, b) / 0x8000000000000000
 }
@@ -185,7 +189,7 @@ pub(crate) fn guess_section(
     section_at(place, order)
 }
 
-// The places of the order from one on move up.
+// What stands in the order from a place on moves up by one.
 fn make_space(place: usize, count: usize, order: &mut [usize])
     requires { ⌜ (count < 64) × (128 ≤ length (now order)) ⌝ }
 {

@@ -21,7 +21,7 @@ abbrev μ-loop : tie.MeasureT-loop
 step : (c : tie.After-is-below Inv-loop μ-loop) →
     let left = c .before .before .before .loop .left in
     (left - left / 2) * c .is-below .result ≤ left - left / 2
-step c = times-bit _ (c .is-below .result) (c .is-below .ensures)
+step c = times-bit _ (c .is-below .result) (c .is-below .ensures .0)
 
 loop-holds : tie.Need-loop-holds Inv-loop μ-loop
 loop-holds c = omega arith
