@@ -10,33 +10,33 @@ use Rattle.lines.specs.Bytes.{Bytes}
 use Rattle.lines.specs.Answers.{Outcome, accepted, refused}
 use Rattle.lines.specs.Buffers.{filled}
 use Rattle.lines.proofs.Buffers.{take-filled, length-filled}
-use Rattle.items.specs.Write.{written, items_in, writeIn}
-use Rattle.items.specs.Answers.{number_of, place_of, counted, bytesAfter, endsAfter, Splits}
+use Rattle.items.specs.Write.{written, items_in, write_in}
+use Rattle.items.specs.Answers.{number_of, place_of, counted, bytes_after, ends_after, Splits}
 use Rattle.items.specs.Laws.{LaidAgain, WriteHas}
-use Rattle.items.specs.Write.{lastEnd}
+use Rattle.items.specs.Write.{last_end}
 use Rattle.items.specs.declared.error.Error.{Error}
 use Rattle.items.specs.declared.error.Error.TheVariants.{ShortBuffer}
 use Rattle.items.specs.declared.splitter.SplitAnswer.{SplitAnswer}
 use Rattle.items.specs.declared.splitter.SplitAnswer.TheVariants.{Refused}
-use Rattle.items.proofs.Laws.{cut-is-laid-again, write-is-accepted, accepted-write-has}
-use Rattle.item_writer.specs.Answers.{writeMeans, measured, textAfter, Writes}
+use Rattle.items.proofs.Laws.{cut_is_laid_again, write_is_accepted, accepted_write_has}
+use Rattle.item_writer.specs.Answers.{write_means, measured, text_after, Writes}
 use Rattle.item_writer.specs.declared.writer.WriteAnswer.{WriteAnswer}
 use Rattle.item_writer.specs.declared.writer.WriteAnswer.TheVariants.{Accepted as WriteAccepted, Refused as WriteRefused}
-use Rattle.claims.specs.RoundTrip.{Lent, WriteAccepts, Back, SplitComesBack, tripIn, tripCounts, bytesBack, endsBack, Trip}
+use Rattle.claims.specs.RoundTrip.{Lent, WriteAccepts, Back, SplitComesBack, trip_in, trip_counts, bytes_back, ends_back, Trip}
 use Rattle.claims.specs.Steps.{ErrorOf}
-use Rattle.claims.proofs.ListBack.{accepted-lent, text-splits, length_back, list-again}
-use Rattle.lines.proofs.Outcomes.{not-accepted, same-refusal}
+use Rattle.claims.proofs.ListBack.{accepted_lent, text_splits, length_back, list_again}
+use Rattle.lines.proofs.Outcomes.{not_accepted, same_refusal}
 
 -- ---- from what the calls promise
 
-pub write-accepts : WriteAccepts
-write-accepts bytes ends out w out' l h p =
-    let e = write-is-accepted (length out) bytes ends h l.fit l.writable in
+pub write_accepts : WriteAccepts
+write_accepts bytes ends out w out' l h p =
+    let e = write_is_accepted (length out) bytes ends h l.fit l.writable in
     let t = written (items_in bytes ends) in
     record {
-      accepted-with = p.answer ∙ ap measured e;
+      accepted_with = p.answer ∙ ap measured e;
       text =
-          ap (take (length t)) (p.out-after ∙ ap (λ (o : Outcome Bytes). textAfter o out) e)
+          ap (take (length t)) (p.new_out ∙ ap (λ (o : Outcome Bytes). text_after o out) e)
           ∙ take-filled t out;
     }
 
@@ -44,26 +44,26 @@ write-accepts bytes ends out w out' l h p =
 back_from : (bytes : Bytes) (ends : List ℕ) → Lent bytes ends → (b : Bytes) (e : List ℕ) (r : SplitAnswer) (b' : Bytes) (e' : List ℕ)
     → 4096 ≤ length b → 256 ≤ length e → Splits (written (items_in bytes ends)) b e r b' e' → Back bytes ends b e r b' e'
 back_from bytes ends l b e r b' e' h k s =
-    let o = text-splits bytes ends l (length b) (length e) h k in
-    let a : LaidAgain bytes ends = cut-is-laid-again bytes ends l.fit in
-    let n : length (take (lastEnd 0 ends) bytes) ≡ lastEnd 0 ends = length-take-le (lastEnd 0 ends) bytes a.inside in
-    let bytes-are : b' ≡ filled (take (lastEnd 0 ends) bytes) b =
-    s.left.bytes_after ∙ ap (λ (x : Outcome (List Bytes)). bytesAfter x b) o ∙ rw a.bytes in
-    let ends-are : e' ≡ filled ends e = s.left.ends-after ∙ ap (λ (x : Outcome (List Bytes)). endsAfter x e) o ∙ rw a.ends-again in
-    let bytes-front : take (lastEnd 0 ends) b' ≡ take (lastEnd 0 ends) bytes =
-    ap (λ (i : ℕ). take i b') (sym n) ∙ ap (take (length (take (lastEnd 0 ends) bytes))) bytes-are ∙ take-filled (take (lastEnd 0 ends) bytes) b in
-    let ends-front : take (length ends) e' ≡ ends = ap (take (length ends)) ends-are ∙ take-filled ends e in
+    let o = text_splits bytes ends l (length b) (length e) h k in
+    let a : LaidAgain bytes ends = cut_is_laid_again bytes ends l.fit in
+    let n : length (take (last_end 0 ends) bytes) ≡ last_end 0 ends = length-take-le (last_end 0 ends) bytes a.inside in
+    let bytes_are : b' ≡ filled (take (last_end 0 ends) bytes) b =
+    s.left.new_bytes ∙ ap (λ (x : Outcome (List Bytes)). bytes_after x b) o ∙ rw a.bytes in
+    let ends_are : e' ≡ filled ends e = s.left.new_ends ∙ ap (λ (x : Outcome (List Bytes)). ends_after x e) o ∙ rw a.ends_again in
+    let bytes_front : take (last_end 0 ends) b' ≡ take (last_end 0 ends) bytes =
+    ap (λ (i : ℕ). take i b') (sym n) ∙ ap (take (length (take (last_end 0 ends) bytes))) bytes_are ∙ take-filled (take (last_end 0 ends) bytes) b in
+    let ends_front : take (length ends) e' ≡ ends = ap (take (length ends)) ends_are ∙ take-filled ends e in
     record {
-      accepted-with = s.answer ∙ ap counted o ∙ rw (a.count, length_back bytes ends a);
-      bytes_back = bytes-are;
-      ends-back = ends-are;
-      list_back = ap (λ (x : Bytes). items_in x (take (length ends) e')) bytes-front ∙ ap (items_in (take (lastEnd 0 ends) bytes)) ends-front ∙ list-again bytes ends a;
+      accepted_with = s.answer ∙ ap counted o ∙ rw (a.count, length_back bytes ends a);
+      bytes_came_back = bytes_are;
+      ends_came_back = ends_are;
+      list_back = ap (λ (x : Bytes). items_in x (take (length ends) e')) bytes_front ∙ ap (items_in (take (last_end 0 ends) bytes)) ends_front ∙ list_again bytes ends a;
     }
 
-pub split-comes-back : SplitComesBack
-split-comes-back bytes ends out w out' l h p n q b e r b' e' hb he s =
-    let g = write-accepts bytes ends out w out' l h p in
-    let z : ◌≡◌ {A = Outcome ℕ} (accepted n) (accepted (length (written (items_in bytes ends)))) = sym q ∙ g.accepted-with in
+pub split_comes_back : SplitComesBack
+split_comes_back bytes ends out w out' l h p n q b e r b' e' hb he s =
+    let g = write_accepts bytes ends out w out' l h p in
+    let z : ◌≡◌ {A = Outcome ℕ} (accepted n) (accepted (length (written (items_in bytes ends)))) = sym q ∙ g.accepted_with in
     let m : n ≡ length (written (items_in bytes ends)) = cc z in
     let t : take n out' ≡ written (items_in bytes ends) = ap (λ (i : ℕ). take i out') m ∙ g.text in
     back_from bytes ends l b e r b' e' hb he (subst (λ (x : Bytes). Splits x b e r b' e') t s)
@@ -71,75 +71,75 @@ split-comes-back bytes ends out w out' l h p n q b e r b' e' hb he s =
 -- ---- the function
 
 module _ (bytes : Bytes) (ends : List ℕ) (out b : Bytes) (e : List ℕ) where
-  trip-refused : (k : Error) → tripIn (length out) (length b) (length e) bytes ends ≡ refused (number_of k) (place_of k)
+  trip_refused : (k : Error) → trip_in (length out) (length b) (length e) bytes ends ≡ refused (number_of k) (place_of k)
       → Trip bytes ends out b e (Refused k) out b e
-  trip-refused k h =
+  trip_refused k h =
       record {
-        answer = sym (ap (tripCounts ends) h);
-        out-after = sym (ap (λ (o : Outcome Bytes). textAfter o out) h);
-        bytes_after = sym (ap (λ (o : Outcome Bytes). bytesBack bytes ends o b) h);
-        ends-after = sym (ap (λ (o : Outcome Bytes). endsBack ends o e) h);
+        answer = sym (ap (trip_counts ends) h);
+        new_out = sym (ap (λ (o : Outcome Bytes). text_after o out) h);
+        new_bytes = sym (ap (λ (o : Outcome Bytes). bytes_back bytes ends o b) h);
+        new_ends = sym (ap (λ (o : Outcome Bytes). ends_back ends o e) h);
       }
 
-  pub trip-short-bytes : length b < 4096 → Trip bytes ends out b e (Refused ShortBuffer) out b e
-  unfolding tripIn
-  trip-short-bytes h = trip-refused ShortBuffer (rw (lt-ltb (length b) 4096 h))
+  pub trip_short_bytes : length b < 4096 → Trip bytes ends out b e (Refused ShortBuffer) out b e
+  unfolding trip_in
+  trip_short_bytes h = trip_refused ShortBuffer (rw (lt-ltb (length b) 4096 h))
 
   module _ (hb : 4096 ≤ length b) where
-    pub trip-short-ends : length e < 256 → Trip bytes ends out b e (Refused ShortBuffer) out b e
-    unfolding tripIn
-    trip-short-ends h = trip-refused ShortBuffer (rw (le-ltb (length b) 4096 hb, lt-ltb (length e) 256 h))
+    pub trip_short_ends : length e < 256 → Trip bytes ends out b e (Refused ShortBuffer) out b e
+    unfolding trip_in
+    trip_short_ends h = trip_refused ShortBuffer (rw (le-ltb (length b) 4096 hb, lt-ltb (length e) 256 h))
 
     module _ (he : 256 ≤ length e) (w : WriteAnswer) (out' : Bytes) (p : Writes bytes ends out w out') where
-      enough : tripIn (length out) (length b) (length e) bytes ends ≡ writeIn (length out) bytes ends
-      unfolding tripIn
+      enough : trip_in (length out) (length b) (length e) bytes ends ≡ write_in (length out) bytes ends
+      unfolding trip_in
       enough = rw (le-ltb (length b) 4096 hb, le-ltb (length e) 256 he)
 
       -- what the write call answers is what its definition says
-      told : (n p : ℕ) → measured (writeIn (length out) bytes ends) ≡ refused n p → writeIn (length out) bytes ends ≡ refused n p
-      told n p h = same-refusal measured (λ t. (length t, refl)) (λ m q. refl) (writeIn (length out) bytes ends) n p h
+      told : (n p : ℕ) → measured (write_in (length out) bytes ends) ≡ refused n p → write_in (length out) bytes ends ≡ refused n p
+      told n p h = same_refusal measured (λ t. (length t, refl)) (λ m q. refl) (write_in (length out) bytes ends) n p h
 
-      written-text : (n : ℕ) → measured (writeIn (length out) bytes ends) ≡ accepted n → (t : Bytes) × (writeIn (length out) bytes ends ≡ accepted t) × (n ≡ length t)
-      written-text n h = go (writeIn (length out) bytes ends) h
+      written_text : (n : ℕ) → measured (write_in (length out) bytes ends) ≡ accepted n → (t : Bytes) × (write_in (length out) bytes ends ≡ accepted t) × (n ≡ length t)
+      written_text n h = go (write_in (length out) bytes ends) h
         where
           go : (o : Outcome Bytes) → measured o ≡ accepted n → (t : Bytes) × (o ≡ accepted t) × (n ≡ length t)
           go (accepted t) q = (t, refl, sym (cc q))
-          go (refused m i) q = not-accepted m i n q
+          go (refused m i) q = not_accepted m i n q
 
       -- the text lies in the buffer
-      pub text-inside : (n : ℕ) → w ≡ WriteAccepted n → n ≤ length out'
-      text-inside n q =
-          let t = written-text n (sym p.answer ∙ ap writeMeans q) in
-          let has : WriteHas (length out) bytes ends t.0 = accepted-write-has (length out) bytes ends t.0 t.1 in
-          let x : out' ≡ filled t.0 out = p.out-after ∙ ap (λ (o : Outcome Bytes). textAfter o out) t.1 in
+      pub text_inside : (n : ℕ) → w ≡ WriteAccepted n → n ≤ length out'
+      text_inside n q =
+          let t = written_text n (sym p.answer ∙ ap write_means q) in
+          let has : WriteHas (length out) bytes ends t.0 = accepted_write_has (length out) bytes ends t.0 t.1 in
+          let x : out' ≡ filled t.0 out = p.new_out ∙ ap (λ (o : Outcome Bytes). text_after o out) t.1 in
           omega (arith, t.2, has.space, has.short, ap length x, length-filled t.0 out (omega (arith, has.space, has.short)))
 
-      pub trip-write-refused : (d k : Error) → w ≡ WriteRefused d → ErrorOf w k → Trip bytes ends out b e (Refused k) out' b e
-      trip-write-refused d k q x =
+      pub trip_write_refused : (d k : Error) → w ≡ WriteRefused d → ErrorOf w k → Trip bytes ends out b e (Refused k) out' b e
+      trip_write_refused d k q x =
           let y : k ≡ d = subst (λ (v : WriteAnswer). ErrorOf v k) q x in
-          let h : writeIn (length out) bytes ends ≡ refused (number_of k) (place_of k) =
-          told (number_of k) (place_of k) (sym p.answer ∙ ap writeMeans q ∙ rw y) in
+          let h : write_in (length out) bytes ends ≡ refused (number_of k) (place_of k) =
+          told (number_of k) (place_of k) (sym p.answer ∙ ap write_means q ∙ rw y) in
           let f = enough ∙ h in
           record {
-            answer = sym (ap (tripCounts ends) f);
-            out-after = p.out-after ∙ sym (ap (λ (o : Outcome Bytes). textAfter o out) enough);
-            bytes_after = sym (ap (λ (o : Outcome Bytes). bytesBack bytes ends o b) f);
-            ends-after = sym (ap (λ (o : Outcome Bytes). endsBack ends o e) f);
+            answer = sym (ap (trip_counts ends) f);
+            new_out = p.new_out ∙ sym (ap (λ (o : Outcome Bytes). text_after o out) enough);
+            new_bytes = sym (ap (λ (o : Outcome Bytes). bytes_back bytes ends o b) f);
+            new_ends = sym (ap (λ (o : Outcome Bytes). ends_back ends o e) f);
           }
 
-      pub trip-back : ((i : ℕ) → get_or bytes i 0 < 256) → (n : ℕ) → w ≡ WriteAccepted n → (r : SplitAnswer) (b' : Bytes) (e' : List ℕ)
+      pub trip_back : ((i : ℕ) → get_or bytes i 0 < 256) → (n : ℕ) → w ≡ WriteAccepted n → (r : SplitAnswer) (b' : Bytes) (e' : List ℕ)
           → Splits (take (n - 0) out') b e r b' e' → Trip bytes ends out b e r out' b' e'
-      trip-back f n q r b' e' s =
+      trip_back f n q r b' e' s =
           let z : n - 0 ≡ n = omega arith in
-          let t = written-text n (sym p.answer ∙ ap writeMeans q) in
-          let has : WriteHas (length out) bytes ends t.0 = accepted-write-has (length out) bytes ends t.0 t.1 in
-          let l : Lent bytes ends = accepted-lent (length out) bytes ends t.0 f has in
+          let t = written_text n (sym p.answer ∙ ap write_means q) in
+          let has : WriteHas (length out) bytes ends t.0 = accepted_write_has (length out) bytes ends t.0 t.1 in
+          let l : Lent bytes ends = accepted_lent (length out) bytes ends t.0 f has in
           let k : Back bytes ends b e r b' e' =
-          split-comes-back bytes ends out w out' l has.space p n (ap writeMeans q) b e r b' e' hb he (rw z at s) in
+          split_comes_back bytes ends out w out' l has.space p n (ap write_means q) b e r b' e' hb he (rw z at s) in
           let g = enough ∙ t.1 in
           record {
-            answer = k.accepted-with ∙ sym (ap (tripCounts ends) g);
-            out-after = p.out-after ∙ sym (ap (λ (o : Outcome Bytes). textAfter o out) enough);
-            bytes_after = k.bytes_back ∙ sym (ap (λ (o : Outcome Bytes). bytesBack bytes ends o b) g);
-            ends-after = k.ends-back ∙ sym (ap (λ (o : Outcome Bytes). endsBack ends o e) g);
+            answer = k.accepted_with ∙ sym (ap (trip_counts ends) g);
+            new_out = p.new_out ∙ sym (ap (λ (o : Outcome Bytes). text_after o out) enough);
+            new_bytes = k.bytes_came_back ∙ sym (ap (λ (o : Outcome Bytes). bytes_back bytes ends o b) g);
+            new_ends = k.ends_came_back ∙ sym (ap (λ (o : Outcome Bytes). ends_back ends o e) g);
           }

@@ -7,113 +7,113 @@ use Rattle.claims.specs.IndentedComments.{IndentedComments}
 use Rattle.claims.specs.Excluded.{SplitsNothing, SplitsTwo, WritesNothing, WritesTwo}
 use Rattle.claims.specs.ExcludedReads.{ReadsNothing, ReadsTwo, NoOneAnswer, CountsOfTable, RefusalOfFile}
 use Rattle.claims.specs.ExcludedNormal.{NormalOfNothing, NoCopy, NormalOfReopened, NoFixedText}
-use Rattle.claims.proofs.CallsBack.{write-accepts, split-comes-back}
-use Rattle.claims.proofs.LookedUp.{table-there, find-after-read, value-after-read, check-after-read, entry-after-read, missing-after-read}
-use Rattle.claims.proofs.Bench.{bench-holds}
-use Rattle.claims.proofs.Demand3.{accepted-leaves, same_text, left-is-accepted, left-is-read, left-is-its-own, text-tells, text-fits, refused-file, short-buffers, not-one-is-call, call-is-not-one}
-use Rattle.claims.proofs.IndentedComments.{indented-comments}
-use Rattle.claims.proofs.Excluded.{splits-nothing, splits-two, writes_nothing, writes-two}
-use Rattle.claims.proofs.ExcludedReads.{reads_nothing, reads_two, no-one-answer, counts-of-table, refusal-of-file}
-use Rattle.claims.proofs.ExcludedNormal.{normal-of-nothing, no_copy, normal-of-reopened, no-fixed-text}
+use Rattle.claims.proofs.CallsBack.{write_accepts, split_comes_back}
+use Rattle.claims.proofs.LookedUp.{table_there, find_after_read, value_after_read, check_after_read, entry_after_read, missing_after_read}
+use Rattle.claims.proofs.Bench.{bench_holds}
+use Rattle.claims.proofs.Demand3.{accepted_leaves, same_text, left_is_accepted, left_is_read, left_is_its_own, text_tells, text_fits, refused_file, short_buffers, not_one_is_call, call_is_not_one}
+use Rattle.claims.proofs.IndentedComments.{indented_comments}
+use Rattle.claims.proofs.Excluded.{splits_nothing, splits_two, writes_nothing, writes_two}
+use Rattle.claims.proofs.ExcludedReads.{reads_nothing, reads_two, no_one_answer, counts_of_table, refusal_of_file}
+use Rattle.claims.proofs.ExcludedNormal.{normal_of_nothing, no_copy, normal_of_reopened, no_fixed_text}
 
-pub list-is-written : WriteAccepts
-list-is-written = write-accepts
+pub list_is_written : WriteAccepts
+list_is_written = write_accepts
 
-pub list-comes-back : SplitComesBack
-list-comes-back = split-comes-back
+pub list_comes_back : SplitComesBack
+list_comes_back = split_comes_back
 
-pub read-file-has-a-table : TableThere
-read-file-has-a-table = table-there
+pub read_file_has_a_table : TableThere
+read_file_has_a_table = table_there
 
-pub read-entries-are-found : FindAfterRead
-read-entries-are-found = find-after-read
+pub read_entries_are_found : FindAfterRead
+read_entries_are_found = find_after_read
 
-pub read-values-come-back : ValueAfterRead
-read-values-come-back = value-after-read
+pub read_values_come_back : ValueAfterRead
+read_values_come_back = value_after_read
 
-pub read-values-are-told : CheckAfterRead
-read-values-are-told = check-after-read
+pub read_values_are_told : CheckAfterRead
+read_values_are_told = check_after_read
 
-pub found-is-first-or-last : EntryAfterRead
-found-is-first-or-last = entry-after-read
+pub found_is_first_or_last : EntryAfterRead
+found_is_first_or_last = entry_after_read
 
-pub missing-is-none : MissingAfterRead
-missing-is-none = missing-after-read
+pub missing_is_none : MissingAfterRead
+missing_is_none = missing_after_read
 
-pub normal-text-is-left : AcceptedLeaves
-normal-text-is-left = accepted-leaves
+pub normal_text_is_left : AcceptedLeaves
+normal_text_is_left = accepted_leaves
 
-pub calls-leave-the-same-text : SameText
-calls-leave-the-same-text = same_text
+pub calls_leave_the_same_text : SameText
+calls_leave_the_same_text = same_text
 
-pub text-left-is-accepted : LeftIsAccepted
-text-left-is-accepted = left-is-accepted
+pub text_left_is_accepted : LeftIsAccepted
+text_left_is_accepted = left_is_accepted
 
-pub text-left-is-read : LeftIsRead
-text-left-is-read = left-is-read
+pub text_left_is_read : LeftIsRead
+text_left_is_read = left_is_read
 
-pub text-left-is-its-own : LeftIsItsOwn
-text-left-is-its-own = left-is-its-own
+pub text_left_is_its_own : LeftIsItsOwn
+text_left_is_its_own = left_is_its_own
 
-pub texts-tell-files-apart : TextTells
-texts-tell-files-apart = text-tells
+pub texts_tell_files_apart : TextTells
+texts_tell_files_apart = text_tells
 
-pub text-left-fits : TextFits
-text-left-fits = text-fits
+pub text_left_fits : TextFits
+text_left_fits = text_fits
 
-pub refused-file-leaves-all : RefusedFile
-refused-file-leaves-all = refused-file
+pub refused_file_leaves_all : RefusedFile
+refused_file_leaves_all = refused_file
 
-pub short-buffer-leaves-all : ShortBuffers
-short-buffer-leaves-all = short-buffers
+pub short_buffer_leaves_all : ShortBuffers
+short_buffer_leaves_all = short_buffers
 
 pub not-refused-with-1-is-long : NotOneIsCall
-not-refused-with-1-is-long = not-one-is-call
+not-refused-with-1-is-long = not_one_is_call
 
 pub long-is-not-refused-with-1 : CallIsNotOne
-long-is-not-refused-with-1 = call-is-not-one
+long-is-not-refused-with-1 = call_is_not_one
 
-pub comments-may-be-indented : IndentedComments
-comments-may-be-indented = indented-comments
+pub comments_may_be_indented : IndentedComments
+comments_may_be_indented = indented_comments
 
-pub bench-cases-hold : BenchHolds
-bench-cases-hold = bench-holds
+pub bench_cases_hold : BenchHolds
+bench_cases_hold = bench_holds
 
-pub empty-text-is-split : SplitsNothing
-empty-text-is-split = splits-nothing
+pub empty_text_is_split : SplitsNothing
+empty_text_is_split = splits_nothing
 
-pub two-items-are-split : SplitsTwo
-two-items-are-split = splits-two
+pub two_items_are_split : SplitsTwo
+two_items_are_split = splits_two
 
-pub empty-list-is-written : WritesNothing
-empty-list-is-written = writes_nothing
+pub empty_list_is_written : WritesNothing
+empty_list_is_written = writes_nothing
 
-pub two-items-are-written : WritesTwo
-two-items-are-written = writes-two
+pub two_items_are_written : WritesTwo
+two_items_are_written = writes_two
 
-pub empty-file-is-read : ReadsNothing
-empty-file-is-read = reads_nothing
+pub empty_file_is_read : ReadsNothing
+empty_file_is_read = reads_nothing
 
-pub two-sections-are-read : ReadsTwo
-two-sections-are-read = reads_two
+pub two_sections_are_read : ReadsTwo
+two_sections_are_read = reads_two
 
-pub no-answer-serves-all : NoOneAnswer
-no-answer-serves-all = no-one-answer
+pub no_answer_serves_all : NoOneAnswer
+no_answer_serves_all = no_one_answer
 
-pub counts-are-of-the-table : CountsOfTable
-counts-are-of-the-table = counts-of-table
+pub counts_are_of_the_table : CountsOfTable
+counts_are_of_the_table = counts_of_table
 
-pub refusals-are-of-the-file : RefusalOfFile
-refusals-are-of-the-file = refusal-of-file
+pub refusals_are_of_the_file : RefusalOfFile
+refusals_are_of_the_file = refusal_of_file
 
-pub empty-file-has-a-normal-text : NormalOfNothing
-empty-file-has-a-normal-text = normal-of-nothing
+pub empty_file_has_a_normal_text : NormalOfNothing
+empty_file_has_a_normal_text = normal_of_nothing
 
-pub input-is-not-copied : NoCopy
-input-is-not-copied = no_copy
+pub input_is_not_copied : NoCopy
+input_is_not_copied = no_copy
 
-pub reopened-sections-are-left : NormalOfReopened
-reopened-sections-are-left = normal-of-reopened
+pub reopened_sections_are_left : NormalOfReopened
+reopened_sections_are_left = normal_of_reopened
 
-pub no-text-serves-all : NoFixedText
-no-text-serves-all = no-fixed-text
+pub no_text_serves_all : NoFixedText
+no_text_serves_all = no_fixed_text

@@ -14,67 +14,67 @@ use Rattle.lines.specs.Buffers.{put}
 use Rattle.lines.specs.declared.error.Error.TheVariants.{ShortBuffer}
 use Rattle.lines.proofs.Buffers.{copied}
 use Rattle.table.specs.Tables.{Table, and_then, verdict}
-use Rattle.table.specs.Answers.{number_of, place_of, errorMeans, readMeans, countsOf, counted, Reads}
+use Rattle.table.specs.Answers.{number_of, place_of, error_means, read_means, counts_of, counted, Reads}
 use Rattle.table.specs.declared.error.Error.{Error}
 use Rattle.table.specs.declared.error.Error.TheVariants.{File}
 use Rattle.table.specs.declared.reader.ReadAnswer.{ReadAnswer}
 use Rattle.table.specs.declared.reader.ReadAnswer.TheVariants.{Accepted as ReadAccepted, Refused as ReadRefused}
-use Rattle.table.proofs.Laws.{enough-space-decides}
+use Rattle.table.proofs.Laws.{enough_space_decides}
 use Rattle.lookup.specs.Decoding.{Lent, lent}
-use Rattle.lookup.specs.Questions.{Part, indexIn, valueIn, partIn}
-use Rattle.lookup.specs.Answers.{findMeans, bytesOr, HandsBack}
+use Rattle.lookup.specs.Questions.{Part, index_in, value_in, part_in}
+use Rattle.lookup.specs.Answers.{find_means, bytes_or, HandsBack}
 use Rattle.lookup.specs.Answers as lookup
 use Rattle.lookup.specs.Laws.{PartOfValue}
 use Rattle.lookup.specs.declared.error.Error as missing
 use Rattle.lookup.specs.declared.search.Which.{Which}
 use Rattle.lookup.specs.declared.search.FindAnswer.{FindAnswer}
 use Rattle.lookup.specs.declared.search.FindAnswer.TheVariants.{Found as FindFound, Refused as FindRefused}
-use Rattle.lookup.proofs.Laws.{parts-are-values, found-are-entries}
-use Rattle.claims.specs.LookUps.{AcceptedRead, lentAfter, indexInTable, valueInTable, Located, lookUpIn, lookUpMeans, shown, valueAfter, Gets}
-use Rattle.claims.specs.Steps.{lookUpLent, Asks}
+use Rattle.lookup.proofs.Laws.{parts_are_values, found_are_entries}
+use Rattle.claims.specs.LookUps.{AcceptedRead, lent_after, index_in_table, value_in_table, Located, look_up_in, look_up_means, shown, value_after, Gets}
+use Rattle.claims.specs.Steps.{look_up_lent, Asks}
 use Rattle.claims.specs.declared.look_up.LookUpAnswer.{LookUpAnswer}
 use Rattle.claims.specs.declared.look_up.LookUpAnswer.TheVariants.{Found, NotRead, NotFound}
-use Rattle.claims.proofs.LookedUp.{table-there, index_is, value-is}
-use Rattle.lines.proofs.Outcomes.{not-accepted, same-refusal}
+use Rattle.claims.proofs.LookedUp.{table_there, index_is, value_is}
+use Rattle.lines.proofs.Outcomes.{not_accepted, same_refusal}
 
 -- ---- what an answer and a buffer say of an outcome
 
 module _ (b : Lent) (w : Which) (x k : Bytes) (out : Bytes) where
-  asks : (o : Outcome Located) → lookUpLent b w x k ≡ o → (r : LookUpAnswer) (out' : Bytes)
-      → lookUpMeans r ≡ shown o → out' ≡ valueAfter o out → Asks b w x k out r out'
-  asks o e r out' p q = record { answer = p ∙ sym (ap shown e); out-after = q ∙ sym (ap (λ (z : Outcome Located). valueAfter z out) e) }
+  asks : (o : Outcome Located) → look_up_lent b w x k ≡ o → (r : LookUpAnswer) (out' : Bytes)
+      → look_up_means r ≡ shown o → out' ≡ value_after o out → Asks b w x k out r out'
+  asks o e r out' p q = record { answer = p ∙ sym (ap shown e); new_out = q ∙ sym (ap (λ (z : Outcome Located). value_after z out) e) }
 
   -- no such entry
-  pub asks-missing : (r : FindAnswer) (d : missing.Error) → r ≡ FindRefused d → findMeans r ≡ indexIn b w x k → Asks b w x k out (NotFound d) out
-  unfolding lookUpLent and_then
-  asks-missing r d q e =
-      let i : indexIn b w x k ≡ lookup.errorMeans d = sym e ∙ ap findMeans q in
-      asks (lookup.errorMeans d) (rw i) (NotFound d) out refl refl
+  pub asks_missing : (r : FindAnswer) (d : missing.Error) → r ≡ FindRefused d → find_means r ≡ index_in b w x k → Asks b w x k out (NotFound d) out
+  unfolding look_up_lent and_then
+  asks_missing r d q e =
+      let i : index_in b w x k ≡ lookup.error_means d = sym e ∙ ap find_means q in
+      asks (lookup.error_means d) (rw i) (NotFound d) out refl refl
 
   -- a value is no longer than the text
-  value-fits : (i : ℕ) (v : Bytes) → valueIn b i ≡ accepted v → length v ≤ length b.text
-  value-fits i v e = go (partIn b i) (parts-are-values b i)
+  value-fits : (i : ℕ) (v : Bytes) → value_in b i ≡ accepted v → length v ≤ length b.text
+  value-fits i v e = go (part_in b i) (parts_are_values b i)
     where
       go : (o : Outcome Part) → PartOfValue b i o → length v ≤ length b.text
       go (accepted p) h =
           let q : v ≡ take p.size (drop p.start b.text) = cc (sym e ∙ h.1) in
           omega (arith, ap length q, length-take p.size (drop p.start b.text), h.0)
-      go (refused n p) h = not-accepted n p v (sym h ∙ e)
+      go (refused n p) h = not_accepted n p v (sym h ∙ e)
 
-  module _ (r : FindAnswer) (i : ℕ) (q : r ≡ FindFound i) (e : findMeans r ≡ indexIn b w x k)
+  module _ (r : FindAnswer) (i : ℕ) (q : r ≡ FindFound i) (e : find_means r ≡ index_in b w x k)
       (at p : ℕ × ℕ) (v : Bytes) (h : HandsBack b i at p v) (l : length b.text ≤ length out) where
-    index : indexIn b w x k ≡ accepted i
-    index = sym e ∙ ap findMeans q
+    index : index_in b w x k ≡ accepted i
+    index = sym e ∙ ap find_means q
 
-    value : valueIn b i ≡ accepted v
+    value : value_in b i ≡ accepted v
     value =
-        let f = found-are-entries b w x k i index in
-        let g : v ≡ f.stands.entry.value = h.bytes ∙ ap bytesOr f.value in
+        let f = found_are_entries b w x k i index in
+        let g : v ≡ f.stands.entry.value = h.bytes ∙ ap bytes_or f.value in
         f.value ∙ ap accepted (sym g)
 
-    pub asks-found : (out' : Bytes) → out' ≡ cond (leb (0 + length v) (length out)) (put out 0 v) out → Asks b w x k out (Found i (length v)) out'
-    unfolding lookUpLent and_then
-    asks-found out' c =
+    pub asks_found : (out' : Bytes) → out' ≡ cond (leb (0 + length v) (length out)) (put out 0 v) out → Asks b w x k out (Found i (length v)) out'
+    unfolding look_up_lent and_then
+    asks_found out' c =
         let n : 0 + length v ≤ length out = omega (arith, value-fits i v value) in
         asks (accepted (record { index = i; value = v })) (rw (index, value)) (Found i (length v)) out' refl
         (copied out out' v 0 n c ∙ rw zero-add)
@@ -82,54 +82,54 @@ module _ (b : Lent) (w : Which) (x k : Bytes) (out : Bytes) where
 -- ---- the whole call
 
 module _ (f : Bytes) (w : Which) (x k : Bytes) (out : Bytes) where
-  gets : (o : Outcome Located) → lookUpIn (length out) f w x k ≡ o → (r : LookUpAnswer) (out' : Bytes)
-      → lookUpMeans r ≡ shown o → out' ≡ valueAfter o out → Gets f w x k out r out'
-  gets o e r out' p q = record { answer = p ∙ sym (ap shown e); out-after = q ∙ sym (ap (λ (z : Outcome Located). valueAfter z out) e) }
+  gets : (o : Outcome Located) → look_up_in (length out) f w x k ≡ o → (r : LookUpAnswer) (out' : Bytes)
+      → look_up_means r ≡ shown o → out' ≡ value_after o out → Gets f w x k out r out'
+  gets o e r out' p q = record { answer = p ∙ sym (ap shown e); new_out = q ∙ sym (ap (λ (z : Outcome Located). value_after z out) e) }
 
-  pub gets-short : length out < 65535 → Gets f w x k out (NotRead (File ShortBuffer)) out
-  unfolding lookUpIn
-  gets-short h = gets (refused 1 0) (rw (lt-ltb (length out) 65535 h)) (NotRead (File ShortBuffer)) out refl refl
+  pub gets_short : length out < 65535 → Gets f w x k out (NotRead (File ShortBuffer)) out
+  unfolding look_up_in
+  gets_short h = gets (refused 1 0) (rw (lt-ltb (length out) 65535 h)) (NotRead (File ShortBuffer)) out refl refl
 
   module _ (h : 65535 ≤ length out) (text : Bytes) (sections entries : List ℕ) (r : ReadAnswer) (text' : Bytes) (sections' entries' : List ℕ)
       (p : Reads f text sections entries r text' sections' entries') where
     -- the file is refused
-    pub gets-refused : 65535 ≤ length text → 128 ≤ length sections → 2560 ≤ length entries
+    pub gets_refused : 65535 ≤ length text → 128 ≤ length sections → 2560 ≤ length entries
         → (e : Error) → r ≡ ReadRefused e → Gets f w x k out (NotRead e) out
-    unfolding lookUpIn and_then
-    gets-refused a b c e q =
-        let d = enough-space-decides (length text) (length sections) (length entries) f a b c in
-        let v : counted (verdict f) ≡ errorMeans e = ap counted (sym d) ∙ sym p.answer ∙ ap readMeans q in
-        let o : verdict f ≡ errorMeans e = same-refusal counted (λ t. (countsOf t, refl)) (λ n p. refl) (verdict f) (number_of e) (place_of e) v in
-        gets (errorMeans e) (rw (le-ltb (length out) 65535 h, o)) (NotRead e) out refl refl
+    unfolding look_up_in and_then
+    gets_refused a b c e q =
+        let d = enough_space_decides (length text) (length sections) (length entries) f a b c in
+        let v : counted (verdict f) ≡ error_means e = ap counted (sym d) ∙ sym p.answer ∙ ap read_means q in
+        let o : verdict f ≡ error_means e = same_refusal counted (λ t. (counts_of t, refl)) (λ n p. refl) (verdict f) (number_of e) (place_of e) v in
+        gets (error_means e) (rw (le-ltb (length out) 65535 h, o)) (NotRead e) out refl refl
 
     -- the file has a table
-    pub gets-asked : (n m j : ℕ) → r ≡ ReadAccepted n m j → (s : LookUpAnswer) (out' : Bytes)
+    pub gets_asked : (n m j : ℕ) → r ≡ ReadAccepted n m j → (s : LookUpAnswer) (out' : Bytes)
         → Asks (lent text' sections' m entries' j) w x k out s out' → Gets f w x k out s out'
-    unfolding lookUpIn lookUpLent and_then
-    gets-asked n m j q s out' a =
+    unfolding look_up_in look_up_lent and_then
+    gets_asked n m j q s out' a =
         let c : AcceptedRead f = record {
-          text-before = text;
-          sections-before = sections;
-          entries-before = entries;
+          text_before = text;
+          sections_before = sections;
+          entries_before = entries;
           text = text';
           sections = sections';
           entries = entries';
           answer = r;
           counts = record { text = n; sections = m; entries = j };
           promise = p;
-          accepted-with = ap readMeans q;
+          accepted_with = ap read_means q;
         } in
-        let t = table-there f c in
-        gets (lookUpLent (lent text' sections' m entries' j) w x k)
-        (rw (le-ltb (length out) 65535 h, t.1) (same-questions t.0 t.1 c))
-        s out' a.answer a.out-after
+        let t = table_there f c in
+        gets (look_up_lent (lent text' sections' m entries' j) w x k)
+        (rw (le-ltb (length out) 65535 h, t.1) (same_questions t.0 t.1 c))
+        s out' a.answer a.new_out
       where
-        same-questions : (t : Table) → verdict f ≡ accepted t → (c : AcceptedRead f)
-            → and_then {B = Located} (indexInTable t w x k) (λ i. and_then (valueInTable t i) (λ v. accepted (record { index = i; value = v })))
-            ≡ lookUpLent (lentAfter c) w x k
-        same-questions t v c = rw (← index_is f t v c w x k) (go (indexIn (lentAfter c) w x k))
+        same_questions : (t : Table) → verdict f ≡ accepted t → (c : AcceptedRead f)
+            → and_then {B = Located} (index_in_table t w x k) (λ i. and_then (value_in_table t i) (λ v. accepted (record { index = i; value = v })))
+            ≡ look_up_lent (lent_after c) w x k
+        same_questions t v c = rw (← index_is f t v c w x k) (go (index_in (lent_after c) w x k))
           where
-            go : (o : Outcome ℕ) → and_then {B = Located} o (λ i. and_then (valueInTable t i) (λ v. accepted (record { index = i; value = v })))
-                ≡ and_then o (λ i. and_then (valueIn (lentAfter c) i) (λ v. accepted (record { index = i; value = v })))
-            go (accepted i) = rw (value-is f t v c i)
+            go : (o : Outcome ℕ) → and_then {B = Located} o (λ i. and_then (value_in_table t i) (λ v. accepted (record { index = i; value = v })))
+                ≡ and_then o (λ i. and_then (value_in (lent_after c) i) (λ v. accepted (record { index = i; value = v })))
+            go (accepted i) = rw (value_is f t v c i)
             go (refused n p) = refl

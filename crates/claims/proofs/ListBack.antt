@@ -10,11 +10,11 @@ use lib.Seq.{length-take-le}
 use borrow.Author.Tests.{le-leb, eqb-false}
 use Rattle.lines.specs.Bytes.{Bytes, between, all}
 use Rattle.lines.specs.Answers.{accepted}
-use Rattle.lines.proofs.Bools.{both, and_left, and_right, not-true, any-all, all_append}
-use Rattle.items.specs.Split.{splitIn, bytes_of}
-use Rattle.items.specs.Write.{written, items_in, nul, lastEnd}
+use Rattle.lines.proofs.Bools.{both, and_left, and_right, not_true, any-all, all_append}
+use Rattle.items.specs.Split.{split_in, bytes_of}
+use Rattle.items.specs.Write.{written, items_in, nul, last_end}
 use Rattle.items.specs.Laws.{LaidAgain, WriteHas}
-use Rattle.items.proofs.Laws.{round_trip, cut-is-laid-again, laid-is-cut-again, space-is-enough}
+use Rattle.items.proofs.Laws.{round_trip, cut_is_laid_again, laid_is_cut_again, space_is_enough}
 use Rattle.claims.specs.RoundTrip.{Lent}
 
 -- ---- bytes
@@ -39,20 +39,20 @@ from_one : (l : Bytes) → all byte l ≡ true → all (λ b. not (nul b)) l ≡
 unfolding all byte
 from_one [] h n = refl
 from_one (b ∷ l) h n =
-    let z : eqb b 0x00 ≡ false = not-true (eqb b 0x00) (and_left (not (nul b)) (all (λ c. not (nul c)) l) n) in
+    let z : eqb b 0x00 ≡ false = not_true (eqb b 0x00) (and_left (not (nul b)) (all (λ c. not (nul c)) l) n) in
     both (between 1 0xFF b) (all (between 1 0xFF) l)
     (both (leb 1 b) (leb b 0xFF) (le-leb 1 b (omega (arith, eqb-false b 0x00 z))) (and_left (byte b) (all byte l) h))
     (from_one l (and_right (byte b) (all byte l) h) (and_right (not (nul b)) (all (λ c. not (nul c)) l) n))
 
 -- ---- a list that was accepted
 
-pub accepted-lent : (out : ℕ) (bytes : Bytes) (ends : List ℕ) (t : Bytes) → ((i : ℕ) → get_or bytes i 0 < 256)
+pub accepted_lent : (out : ℕ) (bytes : Bytes) (ends : List ℕ) (t : Bytes) → ((i : ℕ) → get_or bytes i 0 < 256)
     → WriteHas out bytes ends t → Lent bytes ends
-accepted-lent out bytes ends t b h =
-    let l : LaidAgain bytes ends = cut-is-laid-again bytes ends h.fit in
-    let k : all byte (bytes_of (items_in bytes ends)) ≡ true = rw l.bytes (front_bytes (lastEnd 0 ends) bytes (all-bytes bytes b)) in
+accepted_lent out bytes ends t b h =
+    let l : LaidAgain bytes ends = cut_is_laid_again bytes ends h.fit in
+    let k : all byte (bytes_of (items_in bytes ends)) ≡ true = rw l.bytes (front_bytes (last_end 0 ends) bytes (all-bytes bytes b)) in
     let n : all (λ c. not (nul c)) (bytes_of (items_in bytes ends)) ≡ true =
-    not-false' (all (λ c. not (nul c)) (bytes_of (items_in bytes ends))) (sym (any-all nul (bytes_of (items_in bytes ends))) ∙ h.no_nul) in
+    not_false' (all (λ c. not (nul c)) (bytes_of (items_in bytes ends))) (sym (any-all nul (bytes_of (items_in bytes ends))) ∙ h.no_nul) in
     record {
       fit = h.fit;
       writable = record {
@@ -62,23 +62,23 @@ accepted-lent out bytes ends t b h =
       };
     }
   where
-    not-false' : (a : Bool) → not a ≡ false → a ≡ true
-    not-false' true e = refl
-    not-false' false e = sym e
+    not_false' : (a : Bool) → not a ≡ false → a ≡ true
+    not_false' true e = refl
+    not_false' false e = sym e
 
 -- ---- its text, split
 
-pub text-splits : (bytes : Bytes) (ends : List ℕ) → Lent bytes ends → (b e : ℕ) → 4096 ≤ b → 256 ≤ e
-    → splitIn b e (written (items_in bytes ends)) ≡ accepted (items_in bytes ends)
-text-splits bytes ends l b e h k =
-    space-is-enough b e (written (items_in bytes ends)) h k ∙ round_trip (items_in bytes ends) l.writable
+pub text_splits : (bytes : Bytes) (ends : List ℕ) → Lent bytes ends → (b e : ℕ) → 4096 ≤ b → 256 ≤ e
+    → split_in b e (written (items_in bytes ends)) ≡ accepted (items_in bytes ends)
+text_splits bytes ends l b e h k =
+    space_is_enough b e (written (items_in bytes ends)) h k ∙ round_trip (items_in bytes ends) l.writable
 
 -- as many bytes as up to the last end
-pub length_back : (bytes : Bytes) (ends : List ℕ) → LaidAgain bytes ends → length (bytes_of (items_in bytes ends)) ≡ lastEnd 0 ends
-length_back bytes ends l = ap length l.bytes ∙ length-take-le (lastEnd 0 ends) bytes l.inside
+pub length_back : (bytes : Bytes) (ends : List ℕ) → LaidAgain bytes ends → length (bytes_of (items_in bytes ends)) ≡ last_end 0 ends
+length_back bytes ends l = ap length l.bytes ∙ length-take-le (last_end 0 ends) bytes l.inside
 
 -- the items that the same ends cut out of these bytes
-pub list-again : (bytes : Bytes) (ends : List ℕ) → LaidAgain bytes ends → items_in (take (lastEnd 0 ends) bytes) ends ≡ items_in bytes ends
-list-again bytes ends l =
+pub list_again : (bytes : Bytes) (ends : List ℕ) → LaidAgain bytes ends → items_in (take (last_end 0 ends) bytes) ends ≡ items_in bytes ends
+list_again bytes ends l =
     let i = items_in bytes ends in
-    ap (λ (x : Bytes). items_in x ends) (sym l.bytes) ∙ ap (items_in (bytes_of i)) (sym l.ends-again) ∙ (laid-is-cut-again i).1
+    ap (λ (x : Bytes). items_in x ends) (sym l.bytes) ∙ ap (items_in (bytes_of i)) (sym l.ends_again) ∙ (laid_is_cut_again i).1

@@ -5,10 +5,10 @@ use Rattle.lines.specs.Bytes.{Bytes}
 use Rattle.lines.specs.Text.{bytes}
 use Rattle.lines.specs.Answers.{Outcome, accepted, refused}
 use Rattle.lines.specs.Laws.{All}
-use Rattle.table.specs.Tables.{Entry, entryIn, Table, names, entries, verdict}
-use Rattle.items.specs.Split.{splitOf}
+use Rattle.table.specs.Tables.{Entry, entry_in, Table, names, entries, verdict}
+use Rattle.items.specs.Split.{split_of}
 use Rattle.values.specs.Spans.{span_of}
-use Rattle.normal_text.specs.Answers.{normalOf}
+use Rattle.normal_text.specs.Answers.{normal_of}
 
 -- ---- what a row says
 
@@ -26,33 +26,33 @@ pub data Row : Type 0 where
 
 -- what the table of a file holds
 abbrev pub held : Outcome Table → Outcome Held
-held (accepted t) = accepted (record { sections = names t.events; entries = entries t.events; normal = normalOf t })
+held (accepted t) = accepted (record { sections = names t.events; entries = entries t.events; normal = normal_of t })
 held (refused n p) = refused n p
 
 -- a row holds: the definitions that the promises cite give its answer
 abbrev pub RowHolds : Row → Type 0
 RowHolds (file n f o) = held (verdict (bytes f)) ≡ o
-RowHolds (split n t o) = splitOf (bytes t) ≡ o
+RowHolds (split n t o) = split_of (bytes t) ≡ o
 RowHolds (span n t o) = span_of (bytes t) ≡ o
 
 -- ---- the table
 
 -- no section
-abbrev noSection : Outcome Held
-noSection = accepted (record { sections = []; entries = []; normal = [] })
+abbrev no_section : Outcome Held
+no_section = accepted (record { sections = []; entries = []; normal = [] })
 
 -- one section, the entries in it, and the normal text
-abbrev oneSection : String → List Entry → String → Outcome Held
-oneSection x es t = accepted (record { sections = bytes x ∷ []; entries = es; normal = bytes t })
+abbrev one_section : String → List Entry → String → Outcome Held
+one_section x es t = accepted (record { sections = bytes x ∷ []; entries = es; normal = bytes t })
 
 -- an entry of the first section
 abbrev entry : String → String → Entry
-entry k v = entryIn 0 (bytes k) (bytes v)
+entry k v = entry_in 0 (bytes k) (bytes v)
 
 -- `\n` is LF, `\\` one backslash; 15 has a second row for the number that is one less
-abbrev pub benchRows : List Row
-benchRows =
-    file 1 "" noSection
+abbrev pub bench_rows : List Row
+bench_rows =
+    file 1 "" no_section
     ∷ file 2 "K=1" (refused 9 1)
     ∷ file 3 "[A]\nK=a\\\\\nJ=b" (oneSection "A" (entry "K" "a\\\\" ∷ entry "J" "b" ∷ []) "[A]\nK=a\\\\\nJ=b\n")
     ∷ file 4 "[A]\nK=a\\\n" (oneSection "A" (entry "K" "a" ∷ []) "[A]\nK=a\n")
@@ -73,4 +73,4 @@ benchRows =
 
 -- each row holds
 abbrev pub BenchHolds : Type 0
-BenchHolds = All RowHolds benchRows
+BenchHolds = All RowHolds bench_rows

@@ -6,22 +6,22 @@ use Rattle.lines.specs.Bytes.{Bytes}
 use Rattle.lines.specs.Text.{bytes}
 use Rattle.lines.specs.Answers.{accepted}
 use Rattle.lines.specs.Buffers.{filled}
-use Rattle.items.specs.Answers.{splitMeans, Splits}
+use Rattle.items.specs.Answers.{split_means, Splits}
 use Rattle.items.specs.declared.splitter.SplitAnswer.{SplitAnswer}
-use Rattle.item_writer.specs.Answers.{writeMeans, Writes}
+use Rattle.item_writer.specs.Answers.{write_means, Writes}
 use Rattle.item_writer.specs.declared.writer.WriteAnswer.{WriteAnswer}
 
 -- the empty text has no item
 abbrev pub SplitsNothing : Type 0
 SplitsNothing = (b : Bytes) (e : List ℕ) (r : SplitAnswer) (b' : Bytes) (e' : List ℕ)
     → 4096 ≤ length b → 256 ≤ length e → Splits (bytes "") b e r b' e'
-    → splitMeans r ≡ accepted (record { items = 0; bytes = 0 })
+    → split_means r ≡ accepted (record { items = 0; bytes = 0 })
 
 -- what a call leaves for the text `a bc`: two items, their bytes, and their ends
 pub record TwoItems (b : Bytes) (e : List ℕ) (r : SplitAnswer) (b' : Bytes) (e' : List ℕ) : Type 0 where
-  pub answer : splitMeans r ≡ accepted (record { items = 2; bytes = 3 })
-  pub bytes_after : b' ≡ filled (bytes "abc") b
-  pub ends-after : e' ≡ filled (1 ∷ 3 ∷ []) e
+  pub answer : split_means r ≡ accepted (record { items = 2; bytes = 3 })
+  pub new_bytes : b' ≡ filled (bytes "abc") b
+  pub new_ends : e' ≡ filled (1 ∷ 3 ∷ []) e
 
 -- every call leaves that
 abbrev pub SplitsTwo : Type 0
@@ -31,8 +31,8 @@ SplitsTwo = (b : Bytes) (e : List ℕ) (r : SplitAnswer) (b' : Bytes) (e' : List
 -- the same for the writer: no item is the empty text, and these two are `a bc`
 abbrev pub WritesNothing : Type 0
 WritesNothing = (out : Bytes) (r : WriteAnswer) (out' : Bytes) → 4096 ≤ length out → Writes (bytes "abc") [] out r out'
-    → writeMeans r ≡ accepted 0
+    → write_means r ≡ accepted 0
 
 abbrev pub WritesTwo : Type 0
 WritesTwo = (out : Bytes) (r : WriteAnswer) (out' : Bytes) → 4096 ≤ length out → Writes (bytes "abc") (1 ∷ 3 ∷ []) out r out'
-    → (writeMeans r ≡ accepted 4) × (out' ≡ filled (bytes "a bc") out)
+    → (write_means r ≡ accepted 4) × (out' ≡ filled (bytes "a bc") out)

@@ -9,10 +9,10 @@ pub record ReadCall (f : Bytes) (r : ReadAnswer) : Type 0 where
   pub text : Bytes
   pub sections : List ℕ
   pub entries : List ℕ
-  pub text-after : Bytes
-  pub sections-after : List ℕ
-  pub entries-after : List ℕ
-  pub text-size : 65535 ≤ length text
-  pub sections-size : 128 ≤ length sections
-  pub entries-size : 2560 ≤ length entries
-  pub promise : Reads f text sections entries r text-after sections-after entries-after
+  pub new_text : Bytes
+  pub new_sections : List ℕ
+  pub new_entries : List ℕ
+  pub text_size : 65535 ≤ length text
+  pub sections_size : 128 ≤ length sections
+  pub entries_size : 2560 ≤ length entries
+  pub promise : Reads f text sections entries r new_text new_sections new_entries

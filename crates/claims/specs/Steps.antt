@@ -4,13 +4,13 @@ use Rattle.lines.specs.Bytes.{Bytes, equal}
 use Rattle.lines.specs.Answers.{Outcome, accepted, refused}
 use Rattle.lines.specs.Buffers.{filled}
 use Rattle.table.specs.Tables.{and_then}
-use Rattle.normal_text.specs.Answers.{Sizes, normalMeans}
+use Rattle.normal_text.specs.Answers.{Sizes, normal_means}
 use Rattle.normal_text.specs.declared.normal.NormalAnswer.{NormalAnswer}
 use Rattle.lookup.specs.Decoding.{Lent}
-use Rattle.lookup.specs.Questions.{indexIn, valueIn}
+use Rattle.lookup.specs.Questions.{index_in, value_in}
 use Rattle.lookup.specs.declared.search.Which.{Which}
-use Rattle.claims.specs.LookUps.{Located, lookUpMeans, shown, valueAfter}
-use Rattle.claims.specs.TwoTexts.{textOfFile, filledWith, OfTwo, both, second, alikeMeans}
+use Rattle.claims.specs.LookUps.{Located, look_up_means, shown, value_after}
+use Rattle.claims.specs.TwoTexts.{text_of_file, filled_with, OfTwo, both, second, alike_means}
 use Rattle.claims.specs.declared.two_texts.AlikeAnswer.{AlikeAnswer}
 use Rattle.claims.specs.declared.look_up.LookUpAnswer.{LookUpAnswer}
 use Rattle.items.specs.declared.error.Error.{Error}
@@ -25,14 +25,14 @@ ErrorOf (Refused d) e = e ≡ d
 -- ---- an entry looked up, and its value
 
 -- what the buffers that are lent say
-unfoldable pub lookUpLent : Lent → Which → (x k : Bytes) → Outcome Located
-unfolding and_then indexIn valueIn
-lookUpLent b w x k = and_then (indexIn b w x k) (λ i. and_then (valueIn b i) (λ v. accepted (record { index = i; value = v })))
+unfoldable pub look_up_lent : Lent → Which → (x k : Bytes) → Outcome Located
+unfolding and_then index_in value_in
+look_up_lent b w x k = and_then (index_in b w x k) (λ i. and_then (value_in b i) (λ v. accepted (record { index = i; value = v })))
 
 -- the promise of `find_then_value`
 pub record Asks (b : Lent) (w : Which) (x k : Bytes) (out : Bytes) (r : LookUpAnswer) (out' : Bytes) : Type 0 where
-  pub answer : lookUpMeans r ≡ shown (lookUpLent b w x k)
-  pub out-after : out' ≡ valueAfter (lookUpLent b w x k) out
+  pub answer : look_up_means r ≡ shown (look_up_lent b w x k)
+  pub new_out : out' ≡ value_after (look_up_lent b w x k) out
 
 -- ---- two normal texts
 
@@ -47,14 +47,14 @@ measured (accepted t) = accepted (length t)
 measured (refused n p) = refused n p
 
 -- the normal text of a file, into an output buffer of this size
-unfoldable pub textIn : (outSize : ℕ) → Bytes → Outcome Bytes
-unfolding textOfFile
-textIn outSize f = cond (ltb outSize 65535) (refused 1 0) (textOfFile f)
+unfoldable pub text_in : (outSize : ℕ) → Bytes → Outcome Bytes
+unfolding text_of_file
+text_in outSize f = cond (ltb outSize 65535) (refused 1 0) (text_of_file f)
 
 -- the promise of `normal_into`
 pub record NormalInto (f out : Bytes) (r : NormalAnswer) (out' : Bytes) : Type 0 where
-  pub answer : length_of (normalMeans r) ≡ measured (textIn (length out) f)
-  pub out-after : out' ≡ filledWith (textIn (length out) f) out
+  pub answer : length_of (normal_means r) ≡ measured (text_in (length out) f)
+  pub new_out : out' ≡ filled_with (text_in (length out) f) out
 
 -- whether another file's normal text is this one
 abbrev pub compared : Bytes → Outcome Bytes → OfTwo Bool
@@ -62,12 +62,12 @@ compared t (accepted u) = both (equal t u)
 compared t (refused n p) = second n p
 
 -- a text in front of a buffer, where another file is accepted
-abbrev pub textBeside : Bytes → Outcome Bytes → Bytes → Bytes
-textBeside t (accepted u) d = filled t d
-textBeside t (refused n p) d = d
+abbrev pub text_beside : Bytes → Outcome Bytes → Bytes → Bytes
+text_beside t (accepted u) d = filled t d
+text_beside t (refused n p) d = d
 
 -- the promise of `compare_other`
 pub record Compares (t g out other : Bytes) (r : AlikeAnswer) (out' other' : Bytes) : Type 0 where
-  pub answer : alikeMeans r ≡ compared t (textOfFile g)
-  pub out-after : out' ≡ textBeside t (textOfFile g) out
-  pub other_after : other' ≡ filledWith (textOfFile g) other
+  pub answer : alike_means r ≡ compared t (text_of_file g)
+  pub new_out : out' ≡ text_beside t (text_of_file g) out
+  pub other_after : other' ≡ filled_with (text_of_file g) other

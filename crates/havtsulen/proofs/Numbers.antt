@@ -18,36 +18,36 @@ use Rattle.values.specs.Answers as values
 use Rattle.values.specs.declared.error.Error as value
 use Rattle.values.specs.declared.error.Error.TheVariants.{NoBoolean, SpanForm, SpanTooLarge}
 
-pub file-number : (e : lines.Error) → eqb (file.number_of e) 0 ≡ false
-file-number ShortBuffer = refl
-file-number FileTooLong = refl
-file-number (NotUtf8 n) = refl
-file-number (ControlByte n) = refl
-file-number (LineTooLong n) = refl
+pub file_number : (e : lines.Error) → eqb (file.number_of e) 0 ≡ false
+file_number ShortBuffer = refl
+file_number FileTooLong = refl
+file_number (NotUtf8 n) = refl
+file_number (ControlByte n) = refl
+file_number (LineTooLong n) = refl
 
-pub table-number : (e : reader.Error) → eqb (table.number_of e) 0 ≡ false
-table-number (File e) = file-number e
-table-number (BadHeader n) = refl
-table-number (NoEqualsSign n) = refl
-table-number (BadKey n) = refl
-table-number (NoSection n) = refl
-table-number (TooMany n) = refl
+pub table_number : (e : reader.Error) → eqb (table.number_of e) 0 ≡ false
+table_number (File e) = file_number e
+table_number (BadHeader n) = refl
+table_number (NoEqualsSign n) = refl
+table_number (BadKey n) = refl
+table_number (NoSection n) = refl
+table_number (TooMany n) = refl
 
-pub lookup-number : (e : question.Error) → eqb (lookup.number_of e) 0 ≡ false
-lookup-number NoEntry = refl
-lookup-number FaultyRecord = refl
+pub lookup_number : (e : question.Error) → eqb (lookup.number_of e) 0 ≡ false
+lookup_number NoEntry = refl
+lookup_number FaultyRecord = refl
 
-pub item-number : (e : item.Error) → eqb (items.number_of e) 0 ≡ false
-item-number ShortItems = refl
-item-number TextTooLong = refl
-item-number (ForbiddenByte at) = refl
-item-number (MisplacedQuote at) = refl
-item-number (OpenQuote at) = refl
-item-number (EscapeForm at) = refl
-item-number (EscapeValue at) = refl
-item-number (TooManyItems at) = refl
-item-number NulByte = refl
-item-number BadEnds = refl
+pub item_number : (e : item.Error) → eqb (items.number_of e) 0 ≡ false
+item_number ShortItems = refl
+item_number TextTooLong = refl
+item_number (ForbiddenByte at) = refl
+item_number (MisplacedQuote at) = refl
+item_number (OpenQuote at) = refl
+item_number (EscapeForm at) = refl
+item_number (EscapeValue at) = refl
+item_number (TooManyItems at) = refl
+item_number NulByte = refl
+item_number BadEnds = refl
 
 pub value-number : (e : value.Error) → eqb (values.number_of e) 0 ≡ false
 value-number NoBoolean = refl

@@ -8,33 +8,33 @@ use lib.Dec.{eqb}
 use borrow.Author.Tests.{lt-ltb, le-ltb}
 use Rattle.lines.specs.Answers.{Outcome, accepted, refused}
 use Rattle.lines.specs.Buffers.{filled}
-use Rattle.havtsulen.specs.Reports.{four, isShort, withReport, reportAfter, Reports}
+use Rattle.havtsulen.specs.Reports.{four, is_short, with_report, report_after, Reports}
 use Rattle.havtsulen.specs.Steps.{Replies}
 
 -- ---- the report is judged before everything
 
-pub with-short : {A : Type 0} (report : List ℕ) (o : Outcome A) → length report < 4 → withReport report o ≡ refused 1 0
-unfolding withReport isShort
-with-short report o h = rw (lt-ltb (length report) 4 h)
+pub with_short : {A : Type 0} (report : List ℕ) (o : Outcome A) → length report < 4 → with_report report o ≡ refused 1 0
+unfolding with_report is_short
+with_short report o h = rw (lt-ltb (length report) 4 h)
 
-pub with-long : {A : Type 0} (report : List ℕ) (o : Outcome A) → 4 ≤ length report → withReport report o ≡ o
-unfolding withReport isShort
-with-long report o h = rw (le-ltb (length report) 4 h)
+pub with_long : {A : Type 0} (report : List ℕ) (o : Outcome A) → 4 ≤ length report → with_report report o ≡ o
+unfolding with_report is_short
+with_long report o h = rw (le-ltb (length report) 4 h)
 
 -- ---- reports
 
 module _ {A : Type 0} (told : A → List ℕ) (o : Outcome A) (report : List ℕ) where
   -- a short one is left as it was
   pub short : length report < 4 → o ≡ refused 1 0 → Reports told o report 1 report
-  unfolding reportAfter isShort
+  unfolding report_after is_short
   short h e =
       subst (λ (v : Outcome A). Reports told v report 1 report) (sym e)
-      (record { answer = refl; decides = refl; report-after = rw (lt-ltb (length report) 4 h) })
+      (record { answer = refl; decides = refl; new_report = rw (lt-ltb (length report) 4 h) })
 
   module _ (h : 4 ≤ length report) (r : ℕ) (report' : List ℕ) where
     -- what is put into any other
-    after : (ns : List ℕ) → report' ≡ filled ns report → report' ≡ reportAfter ns report
-    unfolding reportAfter isShort
+    after : (ns : List ℕ) → report' ≡ filled ns report → report' ≡ report_after ns report
+    unfolding report_after is_short
     after ns p = p ∙ rw (le-ltb (length report) 4 h)
 
     -- a reply for what was accepted
@@ -44,7 +44,7 @@ module _ {A : Type 0} (told : A → List ℕ) (o : Outcome A) (report : List ℕ
         (record {
           answer = p.answer;
           decides = ap (λ (n : ℕ). eqb n 0) p.answer;
-          report-after = after (told x) (p.report-after ∙ ap (λ (ns : List ℕ). filled ns report) (sym t));
+          new_report = after (told x) (p.new_report ∙ ap (λ (ns : List ℕ). filled ns report) (sym t));
         })
 
     -- a reply for a refusal
@@ -55,5 +55,5 @@ module _ {A : Type 0} (told : A → List ℕ) (o : Outcome A) (report : List ℕ
         (record {
           answer = q.answer ∙ i;
           decides = ap (λ (m : ℕ). eqb m 0) (q.answer ∙ i) ∙ z;
-          report-after = after (four p 0 0 0) (q.report-after ∙ ap (λ (m : ℕ). filled (four m 0 0 0) report) j);
+          new_report = after (four p 0 0 0) (q.new_report ∙ ap (λ (m : ℕ). filled (four m 0 0 0) report) j);
         })

@@ -9,9 +9,9 @@ answered (accepted x) = 0
 answered (refused n p) = n
 
 -- whether it is accepted
-abbrev pub isAccepted : {A : Type 0} → Outcome A → Bool
-isAccepted (accepted x) = true
-isAccepted (refused n p) = false
+abbrev pub is_accepted : {A : Type 0} → Outcome A → Bool
+is_accepted (accepted x) = true
+is_accepted (refused n p) = false
 
 -- the four numbers of a report
 abbrev pub four : (a b c d : ℕ) → List ℕ
@@ -23,21 +23,21 @@ reported told (accepted x) = told x
 reported told (refused n p) = four p 0 0 0
 
 -- a report is too short where it has fewer than four numbers
-unfoldable pub isShort : (report : List ℕ) → Bool
-isShort report = ltb (length report) 4
+unfoldable pub is_short : (report : List ℕ) → Bool
+is_short report = ltb (length report) 4
 
 -- an outcome with a report: one that is too short is 1, before everything
-unfoldable pub withReport : {A : Type 0} → (report : List ℕ) → Outcome A → Outcome A
-unfolding isShort
-withReport report o = cond (isShort report) (refused 1 0) o
+unfoldable pub with_report : {A : Type 0} → (report : List ℕ) → Outcome A → Outcome A
+unfolding is_short
+with_report report o = cond (is_short report) (refused 1 0) o
 
 -- the report afterwards: the four numbers in front, and the rest as it was; one that is too short stays as it was
-unfoldable pub reportAfter : (numbers : List ℕ) → List ℕ → List ℕ
-unfolding isShort
-reportAfter numbers report = cond (isShort report) report (filled numbers report)
+unfoldable pub report_after : (numbers : List ℕ) → List ℕ → List ℕ
+unfolding is_short
+report_after numbers report = cond (is_short report) report (filled numbers report)
 
 -- what a call answers and leaves in the report, where this is the outcome; the answer is 0 exactly for accepted
 pub record Reports {A : Type 0} (told : A → List ℕ) (o : Outcome A) (report : List ℕ) (r : ℕ) (report' : List ℕ) : Type 0 where
   pub answer : r ≡ answered o
-  pub decides : eqb r 0 ≡ isAccepted o
-  pub report-after : report' ≡ reportAfter (reported told o) report
+  pub decides : eqb r 0 ≡ is_accepted o
+  pub new_report : report' ≡ report_after (reported told o) report

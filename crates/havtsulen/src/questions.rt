@@ -1,14 +1,14 @@
 // Questions to the table that stands in buffers.
 ghost use Rattle.std.specs.Prelude.{◌≡◌};
 ghost use Rattle.lookup.specs.Decoding.{lent};
-ghost use Rattle.havtsulen.specs.Answers.{whichOf, ReportsFind, ReportsValueCheck, ReportsValue};
+ghost use Rattle.havtsulen.specs.Answers.{which_of, ReportsFind, ReportsValueCheck, ReportsValue};
 
 use crate::report::{REPORT_NUMBERS, SHORT_REPORT, reply};
 use lookup::{FindAnswer, ValueAnswer, Which};
 
 // Which entry a number asks for: 0 the first, any other the last.
 fn which_of(which: usize) -> Which
-    ensures { result ≡ whichOf which }
+    ensures { result ≡ which_of which }
 {
     if which == 0 {
         return Which::First;

@@ -9,17 +9,17 @@ use lib.Dec.{eqb}
 use borrow.Author.Tests.{eqb-true, eqb-false, eq-eqb, ne_eqb}
 use Rattle.lines.specs.Bytes.{Bytes, all, any}
 use Rattle.lines.proofs.Bools.{by_cases}
-use Rattle.items.specs.Write.{bareByte, is_bare}
+use Rattle.items.specs.Write.{bare_byte, is_bare}
 
-pub bare-none : (x : Bytes) → length x ≡ 0 → is_bare x ≡ false
+pub bare_none : (x : Bytes) → length x ≡ 0 → is_bare x ≡ false
 unfolding is_bare
-bare-none [] h = refl
-bare-none (b ∷ bs) h = absurd (omega arith)
+bare_none [] h = refl
+bare_none (b ∷ bs) h = absurd (omega arith)
 
-pub bare-some : (x : Bytes) → 0 < length x → is_bare x ≡ all bareByte x
+pub bare_some : (x : Bytes) → 0 < length x → is_bare x ≡ all bare_byte x
 unfolding is_bare
-bare-some [] h = absurd (omega arith)
-bare-some (b ∷ bs) h = refl
+bare_some [] h = absurd (omega arith)
+bare_some (b ∷ bs) h = refl
 
 eqb_swap : (a b : ℕ) → eqb a b ≡ eqb b a
 eqb_swap a b =

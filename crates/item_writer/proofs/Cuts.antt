@@ -8,36 +8,36 @@ use lib.ListN.{length, get_or}
 use lib.Dec.{leb}
 use borrow.Author.Tests.{leb-true}
 use Rattle.lines.proofs.Bools.{and_left, and_right}
-use Rattle.items.specs.Write.{endsFit, lastEnd}
+use Rattle.items.specs.Write.{ends_fit, last_end}
 
 -- what is known of the first end
 pub record FirstEnd (at n e : ℕ) (es : List ℕ) : Type 0 where
   pub above : at ≤ e
   pub inside : e ≤ n
-  pub others : endsFit e n es ≡ true
+  pub others : ends_fit e n es ≡ true
 
-pub first-end : (at n e : ℕ) (es : List ℕ) → (leb at e && leb e n && endsFit e n es) ≡ true → FirstEnd at n e es
-first-end at n e es h =
-    let l = and_left (leb at e && leb e n) (endsFit e n es) h in
+pub first_end : (at n e : ℕ) (es : List ℕ) → (leb at e && leb e n && ends_fit e n es) ≡ true → FirstEnd at n e es
+first_end at n e es h =
+    let l = and_left (leb at e && leb e n) (ends_fit e n es) h in
     record {
       above = leb-true at e (and_left (leb at e) (leb e n) l);
       inside = leb-true e n (and_right (leb at e) (leb e n) l);
-      others = and_right (leb at e && leb e n) (endsFit e n es) h;
+      others = and_right (leb at e && leb e n) (ends_fit e n es) h;
     }
 
 -- no end lies before the start
-pub last-above : (es : List ℕ) (at n : ℕ) → endsFit at n es ≡ true → at ≤ lastEnd at es
-unfolding endsFit
-last-above [] at n h = omega arith
-last-above (e ∷ es) at n h =
-    let f = first-end at n e es h in
-    omega (arith, last-above es e n f.others)
+pub last_above : (es : List ℕ) (at n : ℕ) → ends_fit at n es ≡ true → at ≤ last_end at es
+unfolding ends_fit
+last_above [] at n h = omega arith
+last_above (e ∷ es) at n h =
+    let f = first_end at n e es h in
+    omega (arith, last_above es e n f.others)
 
-pub last_none : (es : List ℕ) (at : ℕ) → length es ≡ 0 → lastEnd at es ≡ at
+pub last_none : (es : List ℕ) (at : ℕ) → length es ≡ 0 → last_end at es ≡ at
 last_none [] at h = refl
 last_none (e ∷ es) at h = absurd (omega arith)
 
-pub last_some : (es : List ℕ) (at : ℕ) → 0 < length es → lastEnd at es ≡ get_or es (length es - 1) 0
+pub last_some : (es : List ℕ) (at : ℕ) → 0 < length es → last_end at es ≡ get_or es (length es - 1) 0
 last_some [] at h = absurd (omega arith)
 last_some (e ∷ []) at h = refl
 last_some (e ∷ f ∷ fs) at h =

@@ -10,32 +10,32 @@ use lib.ListN.{length}
 use borrow.Author.Tests.{eq-eqb, ne_eqb}
 use Rattle.lines.specs.Bytes.{between}
 use Rattle.lines.proofs.Bools.{by_cases}
-use Rattle.items.specs.Escapes.{controlLetters, signLetters}
-use Rattle.items.specs.Write.{letterOf, hexDigit, byteForm, writtenByte}
-use Rattle.items.specs.Steps.{letterMeans}
+use Rattle.items.specs.Escapes.{control_letters, sign_letters}
+use Rattle.items.specs.Write.{letter_of, hex_digit, byte_form, written_byte}
+use Rattle.items.specs.Steps.{letter_means}
 
-module _ (b c : ℕ) (e : letterMeans c ≡ letterOf (controlLetters ++ signLetters) b) where
-  pub as-letter : (c ≡ 0 → ⊥) → writtenByte b ≡ 0x5C ∷ c ∷ []
-  unfolding writtenByte byteForm
-  as-letter h = rw (sym e, ne_eqb c 0 h)
+module _ (b c : ℕ) (e : letter_means c ≡ letter_of (control_letters ++ sign_letters) b) where
+  pub as_letter : (c ≡ 0 → ⊥) → written_byte b ≡ 0x5C ∷ c ∷ []
+  unfolding written_byte byte_form
+  as_letter h = rw (sym e, ne_eqb c 0 h)
 
-  pub as-itself : c ≡ 0 → between 0x20 0x7E b ≡ true → writtenByte b ≡ b ∷ []
-  unfolding writtenByte byteForm
-  as-itself h k = rw (sym e, eq-eqb c 0 h, k)
+  pub as_itself : c ≡ 0 → between 0x20 0x7E b ≡ true → written_byte b ≡ b ∷ []
+  unfolding written_byte byte_form
+  as_itself h k = rw (sym e, eq-eqb c 0 h, k)
 
-  pub as-digits : c ≡ 0 → between 0x20 0x7E b ≡ false
-      → writtenByte b ≡ 0x5C ∷ code "x" ∷ hexDigit (b / 16) ∷ hexDigit (b % 16) ∷ []
-  unfolding writtenByte byteForm
-  as-digits h k = rw (sym e, eq-eqb c 0 h, k)
+  pub as_digits : c ≡ 0 → between 0x20 0x7E b ≡ false
+      → written_byte b ≡ 0x5C ∷ code "x" ∷ hex_digit (b / 16) ∷ hex_digit (b % 16) ∷ []
+  unfolding written_byte byte_form
+  as_digits h k = rw (sym e, eq-eqb c 0 h, k)
 
-spelled-length : (o : Option ℕ) (b : ℕ) → (1 ≤ length (byteForm o b)) × (length (byteForm o b) ≤ 4)
-unfolding byteForm
-spelled-length (some c) b = (omega arith, omega arith)
-spelled-length none b =
+spelled_length : (o : Option ℕ) (b : ℕ) → (1 ≤ length (byte_form o b)) × (length (byte_form o b) ≤ 4)
+unfolding byte_form
+spelled_length (some c) b = (omega arith, omega arith)
+spelled_length none b =
     by_cases (between 0x20 0x7E b)
     (λ e. rw e (omega arith, omega arith))
     (λ e. rw e (omega arith, omega arith))
 
-pub byte-length : (b : ℕ) → (1 ≤ length (writtenByte b)) × (length (writtenByte b) ≤ 4)
-unfolding writtenByte
-byte-length b = spelled-length (letterOf (controlLetters ++ signLetters) b) b
+pub byte_length : (b : ℕ) → (1 ≤ length (written_byte b)) × (length (written_byte b) ≤ 4)
+unfolding written_byte
+byte_length b = spelled_length (letter_of (control_letters ++ sign_letters) b) b

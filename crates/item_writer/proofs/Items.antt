@@ -5,21 +5,21 @@ use native.Mathlib.Omega.{arith}
 use mathlib.Core.Bool.{false}
 use lib.ListN.{length, set}
 use Rattle.lines.specs.Bytes.{Bytes}
-use Rattle.items.specs.Write.{is_bare, inQuotes, writtenItem}
+use Rattle.items.specs.Write.{is_bare, in_quotes, written_item}
 use Rattle.lines.specs.Buffers.{Puts}
 use Rattle.item_writer.specs.Steps.{following}
-use Rattle.lines.proofs.Putting.{puts-byte, puts_then}
-use Rattle.item_writer.proofs.Written.{item-quoted, following-later, quoted-most}
+use Rattle.lines.proofs.Putting.{puts_byte, puts_then}
+use Rattle.item_writer.proofs.Written.{item_quoted, following-later, quoted_most}
 
 module _ (x d : Bytes) (at end : ℕ) (d' : Bytes) where
-  pub puts-quotes : is_bare x ≡ false → at + (4 * length x + 2) ≤ length d → Puts (set d at 0x22) (at + 1) (inQuotes x) end d'
-      → length d' ≡ length d → Puts d at (writtenItem x) (end + 1) (set d' end 0x22)
-  puts-quotes e h p same =
-      let most = quoted-most x in
-      let open-quote = puts-byte d at 0x22 (omega arith) in
-      let close-quote = puts-byte d' end 0x22 (omega (arith, p.behind)) in
-      rw (item-quoted x e) (puts_then (omega arith) (puts_then (omega arith) open-quote p) close-quote)
+  pub puts_quotes : is_bare x ≡ false → at + (4 * length x + 2) ≤ length d → Puts (set d at 0x22) (at + 1) (in_quotes x) end d'
+      → length d' ≡ length d → Puts d at (written_item x) (end + 1) (set d' end 0x22)
+  puts_quotes e h p same =
+      let most = quoted_most x in
+      let open-quote = puts_byte d at 0x22 (omega arith) in
+      let close-quote = puts_byte d' end 0x22 (omega (arith, p.behind)) in
+      rw (item_quoted x e) (puts_then (omega arith) (puts_then (omega arith) open-quote p) close-quote)
 
-  pub puts-behind : (n : ℕ) → (n ≡ 0 → ⊥) → at + 1 ≤ length d → Puts (set d at 0x20) (at + 1) (writtenItem x) end d'
+  pub puts_behind : (n : ℕ) → (n ≡ 0 → ⊥) → at + 1 ≤ length d → Puts (set d at 0x20) (at + 1) (written_item x) end d'
       → Puts d at (following n x) end d'
-  puts-behind n e h p = rw (following-later n x e) (puts_then h (puts-byte d at 0x20 (omega arith)) p)
+  puts_behind n e h p = rw (following-later n x e) (puts_then h (puts_byte d at 0x20 (omega arith)) p)

@@ -9,19 +9,19 @@ use mathlib.Core.Bool.{true}
 use borrow.Author.Tests.{leb-true, ne_eqb}
 use Rattle.lines.specs.Bytes.{between}
 use Rattle.lines.proofs.Bools.{and_left}
-use Rattle.items.specs.Escapes.{controlLetters, signLetters}
-use Rattle.items.specs.Write.{letterOf}
+use Rattle.items.specs.Escapes.{control_letters, sign_letters}
+use Rattle.items.specs.Write.{letter_of}
 
 -- a byte that is no sign has the letter that the control bytes give it
-pub from-controls : (b : ℕ) → (b ≡ 0x5C → ⊥) → (b ≡ 0x22 → ⊥)
-    → letterOf (controlLetters ++ signLetters) b ≡ letterOf controlLetters b
-unfolding letterOf
-from-controls b s q = rw (ne_eqb b 0x5C s, ne_eqb b 0x22 q)
+pub from_controls : (b : ℕ) → (b ≡ 0x5C → ⊥) → (b ≡ 0x22 → ⊥)
+    → letter_of (control_letters ++ sign_letters) b ≡ letter_of control_letters b
+unfolding letter_of
+from_controls b s q = rw (ne_eqb b 0x5C s, ne_eqb b 0x22 q)
 
 -- which is none for a byte from 20 to 7E
-pub above-controls : (b : ℕ) → between 0x20 0x7E b ≡ true → letterOf controlLetters b ≡ none
-unfolding letterOf
-above-controls b w =
+pub above_controls : (b : ℕ) → between 0x20 0x7E b ≡ true → letter_of control_letters b ≡ none
+unfolding letter_of
+above_controls b w =
     let low : 0x20 ≤ b = leb-true 0x20 b (and_left (leb 0x20 b) (leb b 0x7E) w) in
     simp (
       ne_eqb b 0x07 (λ e. omega arith),

@@ -12,75 +12,75 @@ use borrow.Author.Tests.{lt-ltb, le-ltb, le-leb}
 use Rattle.lines.specs.Bytes.{Bytes, any}
 use Rattle.lines.specs.Answers.{accepted, refused}
 use Rattle.lines.specs.Buffers.{put}
-use Rattle.items.specs.Answers.{errorMeans}
+use Rattle.items.specs.Answers.{error_means}
 use Rattle.items.specs.declared.error.Error.{Error}
 use Rattle.items.specs.declared.error.Error.TheVariants.{ShortBuffer, TextTooLong, TooManyItems, NulByte, BadEnds}
-use Rattle.items.specs.Write.{endsFit, items_in, written, nul, writeIn, lastEnd}
+use Rattle.items.specs.Write.{ends_fit, items_in, written, nul, write_in, last_end}
 use Rattle.item_writer.specs.Answers.{Writes}
 use Rattle.lines.specs.Buffers.{Puts}
 use Rattle.item_writer.specs.declared.writer.WriteAnswer.TheVariants.{Accepted, Refused}
-use Rattle.item_writer.proofs.Written.{written-least}
-use Rattle.items.proofs.Laws.{cut-is-laid-again}
+use Rattle.item_writer.proofs.Written.{written_least}
+use Rattle.items.proofs.Laws.{cut_is_laid_again}
 
 -- the bytes up to the last end, as the code lends them
-pub used-bytes : (bs : Bytes) (ends : List ℕ) (used : ℕ) → used ≡ lastEnd 0 ends → take (used - 0) bs ≡ take (lastEnd 0 ends) bs
-used-bytes bs ends used e = let n : used - 0 ≡ lastEnd 0 ends = omega arith in rw n
+pub used_bytes : (bs : Bytes) (ends : List ℕ) (used : ℕ) → used ≡ last_end 0 ends → take (used - 0) bs ≡ take (last_end 0 ends) bs
+used_bytes bs ends used e = let n : used - 0 ≡ last_end 0 ends = omega arith in rw n
 
 module _ (bs : Bytes) (ends : List ℕ) (d : Bytes) where
-  refuses : (e : Error) → writeIn (length d) bs ends ≡ errorMeans e → Writes bs ends d (Refused e) d
-  refuses e h = record { answer = rw h; out-after = rw h }
+  refuses : (e : Error) → write_in (length d) bs ends ≡ error_means e → Writes bs ends d (Refused e) d
+  refuses e h = record { answer = rw h; new_out = rw h }
 
-  pub short-buffer : length d < 4096 → Writes bs ends d (Refused ShortBuffer) d
-  unfolding writeIn
-  short-buffer h = refuses ShortBuffer (rw (lt-ltb (length d) 4096 h))
+  pub short_buffer : length d < 4096 → Writes bs ends d (Refused ShortBuffer) d
+  unfolding write_in
+  short_buffer h = refuses ShortBuffer (rw (lt-ltb (length d) 4096 h))
 
   module _ (room : 4096 ≤ length d) where
     pub too_many : 256 < length ends → Writes bs ends d (Refused (TooManyItems 0)) d
-    unfolding writeIn
+    unfolding write_in
     too_many h = refuses (TooManyItems 0) (rw (le-ltb (length d) 4096 room, lt-ltb 256 (length ends) h))
 
     module _ (few : length ends ≤ 256) where
-      pub unfit-ends : endsFit 0 (length bs) ends ≡ false → Writes bs ends d (Refused BadEnds) d
-      unfolding writeIn
-      unfit-ends h = refuses BadEnds (rw (le-ltb (length d) 4096 room, le-ltb 256 (length ends) few, h))
+      pub unfit_ends : ends_fit 0 (length bs) ends ≡ false → Writes bs ends d (Refused BadEnds) d
+      unfolding write_in
+      unfit_ends h = refuses BadEnds (rw (le-ltb (length d) 4096 room, le-ltb 256 (length ends) few, h))
 
-      module _ (fit : endsFit 0 (length bs) ends ≡ true) where
+      module _ (fit : ends_fit 0 (length bs) ends ≡ true) where
         -- 27 and 20 are left
-        tests_left : writeIn (length d) bs ends ≡
-            cond (any nul (take (lastEnd 0 ends) bs)) (refused 27 0)
+        tests_left : write_in (length d) bs ends ≡
+            cond (any nul (take (last_end 0 ends) bs)) (refused 27 0)
             (cond (ltb 4096 (length (written (items_in bs ends)))) (refused 20 0)
             (accepted (written (items_in bs ends))))
-        unfolding writeIn
-        tests_left = rw (le-ltb (length d) 4096 room, le-ltb 256 (length ends) few, fit, (cut-is-laid-again bs ends fit).bytes)
+        unfolding write_in
+        tests_left = rw (le-ltb (length d) 4096 room, le-ltb 256 (length ends) few, fit, (cut_is_laid_again bs ends fit).bytes)
 
-        pub nul-byte : any nul (take (lastEnd 0 ends) bs) ≡ true → Writes bs ends d (Refused NulByte) d
-        nul-byte h = refuses NulByte (tests_left ∙ rw h)
+        pub nul_byte : any nul (take (last_end 0 ends) bs) ≡ true → Writes bs ends d (Refused NulByte) d
+        nul_byte h = refuses NulByte (tests_left ∙ rw h)
 
-        module _ (free : any nul (take (lastEnd 0 ends) bs) ≡ false) where
-          pub long-text : 4096 < length (written (items_in bs ends)) → Writes bs ends d (Refused TextTooLong) d
-          long-text h = refuses TextTooLong (tests_left ∙ rw (free, lt-ltb 4096 (length (written (items_in bs ends))) h))
+        module _ (free : any nul (take (last_end 0 ends) bs) ≡ false) where
+          pub long_text : 4096 < length (written (items_in bs ends)) → Writes bs ends d (Refused TextTooLong) d
+          long_text h = refuses TextTooLong (tests_left ∙ rw (free, lt-ltb 4096 (length (written (items_in bs ends))) h))
 
           -- the bytes of the items alone are too many
-          pub long-bytes : 4096 < lastEnd 0 ends → Writes bs ends d (Refused TextTooLong) d
-          long-bytes h =
-              let laid = cut-is-laid-again bs ends fit in
-              let used = ap length laid.bytes ∙ length-take-le (lastEnd 0 ends) bs laid.inside in
-              long-text (omega (arith, used, written-least (items_in bs ends)))
+          pub long_bytes : 4096 < last_end 0 ends → Writes bs ends d (Refused TextTooLong) d
+          long_bytes h =
+              let laid = cut_is_laid_again bs ends fit in
+              let used = ap length laid.bytes ∙ length-take-le (last_end 0 ends) bs laid.inside in
+              long_text (omega (arith, used, written_least (items_in bs ends)))
 
-          text-written : length (written (items_in bs ends)) ≤ 4096 → writeIn (length d) bs ends ≡ accepted (written (items_in bs ends))
-          text-written h = tests_left ∙ rw (free, le-ltb 4096 (length (written (items_in bs ends))) h)
+          text_written : length (written (items_in bs ends)) ≤ 4096 → write_in (length d) bs ends ≡ accepted (written (items_in bs ends))
+          text_written h = tests_left ∙ rw (free, le-ltb 4096 (length (written (items_in bs ends))) h)
 
           -- the text has been put at the front of another buffer, and is copied from there
-          pub text-copied : (other text : Bytes) (r : ℕ) (d' : Bytes) → Puts other 0 (written (items_in bs ends)) r text → r ≤ 4096
+          pub text_copied : (other text : Bytes) (r : ℕ) (d' : Bytes) → Puts other 0 (written (items_in bs ends)) r text → r ≤ 4096
               → d' ≡ cond (leb (0 + length (take (r - 0) text)) (length d)) (put d 0 (take (r - 0) text)) d → Writes bs ends d (Accepted r) d'
-          text-copied other text r d' p h e =
+          text_copied other text r d' p h e =
               let t : Bytes = written (items_in bs ends) in
               let size : r ≡ length t = p.behind ∙ zero-add (length t) in
               let n : r - 0 ≡ length t = omega arith in
               let front : take (r - 0) text ≡ t = rw (n, p.after) (take_at t (drop (0 + length t) other) (length t) refl) in
-              let w = text-written (omega arith) in
+              let w = text_written (omega arith) in
               let fits : leb (0 + length t) (length d) ≡ true = le-leb (0 + length t) (length d) (omega arith) in
               record {
                 answer = rw (w, size);
-                out-after = e ∙ rw (front, fits, w, zero-add (length t));
+                new_out = e ∙ rw (front, fits, w, zero-add (length t));
               }

@@ -9,74 +9,74 @@ use lib.ListN.{length, length-append}
 use Rattle.lines.specs.Bytes.{Bytes}
 use Rattle.lines.proofs.Bools.{by_cases}
 use Rattle.items.specs.Split.{bytes_of}
-use Rattle.items.specs.Write.{is_bare, writtenByte, inQuotes, writtenItem, written}
+use Rattle.items.specs.Write.{is_bare, written_byte, in_quotes, written_item, written}
 use Rattle.item_writer.specs.Steps.{following}
-use Rattle.item_writer.proofs.Forms.{byte-length}
+use Rattle.item_writer.proofs.Forms.{byte_length}
 
 -- ---- forms
 
-pub item-bare : (x : Bytes) → is_bare x ≡ true → writtenItem x ≡ x
-unfolding writtenItem
-item-bare x h = rw h
+pub item_bare : (x : Bytes) → is_bare x ≡ true → written_item x ≡ x
+unfolding written_item
+item_bare x h = rw h
 
-pub item-quoted : (x : Bytes) → is_bare x ≡ false → writtenItem x ≡ 0x22 ∷ inQuotes x ++ 0x22 ∷ []
-unfolding writtenItem
-item-quoted x h = rw h
+pub item_quoted : (x : Bytes) → is_bare x ≡ false → written_item x ≡ 0x22 ∷ in_quotes x ++ 0x22 ∷ []
+unfolding written_item
+item_quoted x h = rw h
 
-pub following-first : (n : ℕ) (x : Bytes) → n ≡ 0 → following n x ≡ writtenItem x
+pub following_first : (n : ℕ) (x : Bytes) → n ≡ 0 → following n x ≡ written_item x
 unfolding following
-following-first n x h = rw h
+following_first n x h = rw h
 
-pub following-later : (n : ℕ) (x : Bytes) → (n ≡ 0 → ⊥) → following n x ≡ 0x20 ∷ writtenItem x
+pub following-later : (n : ℕ) (x : Bytes) → (n ≡ 0 → ⊥) → following n x ≡ 0x20 ∷ written_item x
 unfolding following
 following-later zero x h = absurd (h refl)
 following-later (suc n) x h = refl
 
 -- ---- one more
 
-pub inQuotes-snoc : (xs : Bytes) (b : ℕ) → inQuotes (xs ++ b ∷ []) ≡ inQuotes xs ++ writtenByte b
-unfolding inQuotes
-inQuotes-snoc [] b = append-nil (writtenByte b)
-inQuotes-snoc (x ∷ xs) b = rw (inQuotes-snoc xs b, append_assoc)
+pub in_quotes_snoc : (xs : Bytes) (b : ℕ) → in_quotes (xs ++ b ∷ []) ≡ in_quotes xs ++ written_byte b
+unfolding in_quotes
+in_quotes_snoc [] b = append-nil (written_byte b)
+in_quotes_snoc (x ∷ xs) b = rw (in_quotes_snoc xs b, append_assoc)
 
-pub written-snoc : (xs : List Bytes) (x : Bytes) → written (xs ++ x ∷ []) ≡ written xs ++ following (length xs) x
+pub written_snoc : (xs : List Bytes) (x : Bytes) → written (xs ++ x ∷ []) ≡ written xs ++ following (length xs) x
 unfolding written following
-written-snoc [] x = refl
-written-snoc (y ∷ []) x = refl
-written-snoc (y ∷ z ∷ zs) x = rw (written-snoc (z ∷ zs) x, append_assoc)
+written_snoc [] x = refl
+written_snoc (y ∷ []) x = refl
+written_snoc (y ∷ z ∷ zs) x = rw (written_snoc (z ∷ zs) x, append_assoc)
 
 -- ---- lengths
 
-quoted-length : (xs : Bytes) → (length xs ≤ length (inQuotes xs)) × (length (inQuotes xs) ≤ 4 * length xs)
-unfolding inQuotes
-quoted-length [] = (omega arith, omega arith)
-quoted-length (b ∷ bs) =
-    let l = quoted-length bs in
-    let k = byte-length b in
-    let e = length-append (writtenByte b) (inQuotes bs) in
+quoted_length : (xs : Bytes) → (length xs ≤ length (in_quotes xs)) × (length (in_quotes xs) ≤ 4 * length xs)
+unfolding in_quotes
+quoted_length [] = (omega arith, omega arith)
+quoted_length (b ∷ bs) =
+    let l = quoted_length bs in
+    let k = byte_length b in
+    let e = length-append (written_byte b) (in_quotes bs) in
     (omega arith, omega arith)
 
-pub quoted-most : (xs : Bytes) → length (inQuotes xs) ≤ 4 * length xs
-quoted-most xs = (quoted-length xs).1
+pub quoted_most : (xs : Bytes) → length (in_quotes xs) ≤ 4 * length xs
+quoted_most xs = (quoted_length xs).1
 
-item-length : (x : Bytes) → (length x ≤ length (writtenItem x)) × (length (writtenItem x) ≤ 4 * length x + 2)
-unfolding writtenItem
-item-length x =
-    let l = quoted-length x in
-    let e = length-append (inQuotes x) (0x22 ∷ []) in
+item_length : (x : Bytes) → (length x ≤ length (written_item x)) × (length (written_item x) ≤ 4 * length x + 2)
+unfolding written_item
+item_length x =
+    let l = quoted_length x in
+    let e = length-append (in_quotes x) (0x22 ∷ []) in
     by_cases (is_bare x) (λ t. rw t (omega arith, omega arith)) (λ t. rw t (omega arith, omega arith))
 
 -- with a space before it
-pub following-most : (n : ℕ) (x : Bytes) → length (following n x) ≤ 4 * length x + 3
+pub following_most : (n : ℕ) (x : Bytes) → length (following n x) ≤ 4 * length x + 3
 unfolding following
-following-most zero x = omega (arith, (item-length x).1)
-following-most (suc n) x = omega (arith, (item-length x).1)
+following_most zero x = omega (arith, (item_length x).1)
+following_most (suc n) x = omega (arith, (item_length x).1)
 
-pub written-least : (xs : List Bytes) → length (bytes_of xs) ≤ length (written xs)
+pub written_least : (xs : List Bytes) → length (bytes_of xs) ≤ length (written xs)
 unfolding bytes_of written
-written-least [] = omega arith
-written-least (x ∷ []) = omega (arith, (item-length x).0, length-append x [])
-written-least (x ∷ y ∷ ys) =
+written_least [] = omega arith
+written_least (x ∷ []) = omega (arith, (item_length x).0, length-append x [])
+written_least (x ∷ y ∷ ys) =
     let bytes = length-append x (bytes_of (y ∷ ys)) in
-    let text = length-append (writtenItem x) (0x20 ∷ written (y ∷ ys)) in
-    omega (arith, (item-length x).0, written-least (y ∷ ys))
+    let text = length-append (written_item x) (0x20 ∷ written (y ∷ ys)) in
+    omega (arith, (item_length x).0, written_least (y ∷ ys))

@@ -1,9 +1,9 @@
 // The writer: items into a text.
 ghost use Rattle.std.specs.Prelude.{◌≡◌, ◌+◌, ◌*◌, ◌≤◌, ◌<◌, true, ◌++◌, length, eqb};
 ghost use Rattle.lines.specs.Bytes.{any};
-ghost use Rattle.items.specs.Escapes.{controlLetters, signLetters};
-ghost use Rattle.items.specs.Write.{bareByte, is_bare, letterOf, hexDigit, writtenByte, inQuotes, writtenItem, written, endsFit, items_in, lastEnd};
-ghost use Rattle.items.specs.Steps.{letterMeans};
+ghost use Rattle.items.specs.Escapes.{control_letters, sign_letters};
+ghost use Rattle.items.specs.Write.{bare_byte, is_bare, letter_of, hex_digit, written_byte, in_quotes, written_item, written, ends_fit, items_in, last_end};
+ghost use Rattle.items.specs.Steps.{letter_means};
 ghost use Rattle.lines.specs.Buffers.{Puts};
 ghost use Rattle.item_writer.specs.Steps.{following};
 ghost use Rattle.item_writer.specs.Answers.{Writes};
@@ -45,7 +45,7 @@ fn contains(bytes: &[u8], b: u8) -> bool
 
 // A byte that a bare item may have.
 fn is_bare_byte(b: u8) -> bool
-    ensures { result ≡ bareByte b }
+    ensures { result ≡ bare_byte b }
 {
     if is_letter(b) {
         return true;
@@ -75,7 +75,7 @@ fn is_bare(item: &[u8]) -> bool
 
 // No end lies below the one before it, nor past the bytes, of which there are `size`.
 fn ends_fit(ends: &[usize], size: usize) -> bool
-    ensures { result ≡ endsFit 0 size ends.now }
+    ensures { result ≡ ends_fit 0 size ends.now }
 {
     let mut last = 0;
     let mut i = 0;
@@ -95,7 +95,7 @@ fn ends_fit(ends: &[usize], size: usize) -> bool
 
 // Where the last item ends; 0 where there is none.
 fn last_end(ends: &[usize]) -> usize
-    ensures { result ≡ lastEnd 0 ends.now }
+    ensures { result ≡ last_end 0 ends.now }
 {
     if ends.len() == 0 {
         return 0;
@@ -107,7 +107,7 @@ fn last_end(ends: &[usize]) -> usize
 
 // The letter of a control byte that has a letter escape; 0 where it has none.
 fn control_letter(b: u8) -> u8
-    ensures { letterMeans result ≡ letterOf controlLetters b }
+    ensures { letter_means result ≡ letter_of control_letters b }
 {
     match b {
         0x07 => b'a',
@@ -124,7 +124,7 @@ fn control_letter(b: u8) -> u8
 // The letter of any byte that has a letter escape, the two signs among them; 0 where it has none. Most bytes are 20 to 7E,
 // and are told by comparisons alone.
 fn letter_of(b: u8) -> u8
-    ensures { letterMeans result ≡ letterOf (controlLetters ++ signLetters) b }
+    ensures { letter_means result ≡ letter_of (control_letters ++ sign_letters) b }
 {
     if b == b'\\' {
         return b;
@@ -141,7 +141,7 @@ fn letter_of(b: u8) -> u8
 // A lower-case hex digit.
 fn hex_digit(n: u8) -> u8
     requires { n < 16 }
-    ensures { result ≡ hexDigit n }
+    ensures { result ≡ hex_digit n }
 {
     if n < 10 {
         return b'0' + n;
@@ -153,7 +153,7 @@ fn hex_digit(n: u8) -> u8
 
 fn put_byte(b: u8, text: &mut [u8], at: usize) -> usize
     requires { at + 4 ≤ length text.old }
-    ensures { Puts text.old at (writtenByte b) result text.new }
+    ensures { Puts text.old at (written_byte b) result text.new }
 {
     let letter = letter_of(b);
     if letter != 0 {
@@ -175,7 +175,7 @@ fn put_byte(b: u8, text: &mut [u8], at: usize) -> usize
 // The bytes of an item in quotes, without these.
 fn put_quoted(item: &[u8], text: &mut [u8], at: usize) -> usize
     requires { at + 4 * length item.now ≤ length text.old }
-    ensures { Puts text.old at (inQuotes item.now) result text.new }
+    ensures { Puts text.old at (in_quotes item.now) result text.new }
 {
     let mut end = at;
     let mut i = 0;
@@ -188,7 +188,7 @@ fn put_quoted(item: &[u8], text: &mut [u8], at: usize) -> usize
 
 fn put_item(item: &[u8], text: &mut [u8], at: usize) -> usize
     requires { at + (4 * length item.now + 2) ≤ length text.old }
-    ensures { Puts text.old at (writtenItem item.now) result text.new }
+    ensures { Puts text.old at (written_item item.now) result text.new }
 {
     if is_bare(item) {
         copy_into(item, text, at);
@@ -214,8 +214,8 @@ fn put_next(item: &[u8], count: usize, text: &mut [u8], at: usize) -> usize
 
 // All items that fitting ends cut out of bytes, from the start of the text.
 fn put_list(bytes: &[u8], ends: &[usize], text: &mut [u8]) -> usize
-    requires { (endsFit 0 (length bytes.now) ends.now ≡ true)
-        × (4 * lastEnd 0 ends.now + 3 * length ends.now ≤ length text.old) }
+    requires { (ends_fit 0 (length bytes.now) ends.now ≡ true)
+        × (4 * last_end 0 ends.now + 3 * length ends.now ≤ length text.old) }
     ensures { Puts text.old 0 (written (items_in bytes.now ends.now)) result text.new }
 {
     let mut at = 0;

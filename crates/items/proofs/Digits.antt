@@ -14,36 +14,36 @@ use lib.ListN.{length, take, get_or, length-append}
 use lib.Seq.{take-suc}
 use borrow.Author.Tests.{lt-ltb, le-ltb, le-leb, lt-leb}
 use Rattle.lines.specs.Bytes.{Bytes, all}
-use Rattle.lines.proofs.Bools.{all_append, and-false}
-use Rattle.items.specs.Escapes.{digitValue, digitOf, value, number}
+use Rattle.lines.proofs.Bools.{all_append, and_false}
+use Rattle.items.specs.Escapes.{digit_value, digit_of, value, number}
 
 -- m · b^(n+1) is b times m · b^n
-power-out : (m b n : ℕ) → m * b ^ suc n ≡ m * b ^ n * b
-power-out m b n = ap (λ (k : ℕ). m * k) (pow-suc b n) ∙ sym (mul_assoc m (b ^ n) b)
+power_out : (m b n : ℕ) → m * b ^ suc n ≡ m * b ^ n * b
+power_out m b n = ap (λ (k : ℕ). m * k) (pow-suc b n) ∙ sym (mul_assoc m (b ^ n) b)
 
-pub value-snoc : (base : ℕ) (a : Bytes) (c : ℕ) → value base (a ++ c ∷ []) ≡ value base a * base + digitValue c
+pub value_snoc : (base : ℕ) (a : Bytes) (c : ℕ) → value base (a ++ c ∷ []) ≡ value base a * base + digit_value c
 unfolding value
-value-snoc base [] c = rw (pow-zero base, mul-one (digitValue c)) (omega arith)
-value-snoc base (x ∷ a) c =
+value_snoc base [] c = rw (pow-zero base, mul-one (digit_value c)) (omega arith)
+value_snoc base (x ∷ a) c =
     let n : length (a ++ c ∷ []) ≡ suc (length a) = length-append a (c ∷ []) ∙ omega arith in
-    rw (n, value-snoc base a c)
-    (omega (arith, power-out (digitValue x) base (length a), add-mul (digitValue x * base ^ length a) (value base a) base))
+    rw (n, value_snoc base a c)
+    (omega (arith, power_out (digit_value x) base (length a), add-mul (digit_value x * base ^ length a) (value base a) base))
 
 -- one byte that fails
-all-fails : (p : ℕ → Bool) (t : Bytes) (n i : ℕ) → i < n → i < length t → p (get_or t i 0) ≡ false → all p (take n t) ≡ false
+all_fails : (p : ℕ → Bool) (t : Bytes) (n i : ℕ) → i < n → i < length t → p (get_or t i 0) ≡ false → all p (take n t) ≡ false
 unfolding all
-all-fails p [] n i h l e = absurd (omega arith)
-all-fails p (b ∷ t) zero i h l e = absurd (omega arith)
-all-fails p (b ∷ t) (suc n) zero h l e = rw e
-all-fails p (b ∷ t) (suc n) (suc i) h l e =
-    rw (all-fails p t n i (omega arith) (omega arith) e) (and-false (p b))
+all_fails p [] n i h l e = absurd (omega arith)
+all_fails p (b ∷ t) zero i h l e = absurd (omega arith)
+all_fails p (b ∷ t) (suc n) zero h l e = rw e
+all_fails p (b ∷ t) (suc n) (suc i) h l e =
+    rw (all_fails p t n i (omega arith) (omega arith) e) (and_false (p b))
 
 -- the first i of n bytes were read: they are digits, and v is their number
 pub record DigitsRead (t : Bytes) (base n i v : ℕ) : Type 0 where
   pub few : i ≤ n
   pub there : n ≤ length t
-  pub digits : all (digitOf base) (take i t) ≡ true
-  pub value-is : v ≡ value base (take i t)
+  pub digits : all (digit_of base) (take i t) ≡ true
+  pub value_is : v ≡ value base (take i t)
   pub small : v < 16 ^ i
 
 module _ (t : Bytes) (base n : ℕ) where
@@ -51,16 +51,16 @@ module _ (t : Bytes) (base n : ℕ) where
   unfolding number
   too_short h = rw (lt-leb n (length t) h)
 
-  pub digits-start : n ≤ length t → DigitsRead t base n 0 0
+  pub digits_start : n ≤ length t → DigitsRead t base n 0 0
   unfolding all value
-  digits-start h = record { few = omega arith; there = h; digits = refl; value-is = refl; small = omega arith }
+  digits_start h = record { few = omega arith; there = h; digits = refl; value_is = refl; small = omega arith }
 
-  module _ (i v d : ℕ) (r : DigitsRead t base n i v) (h : i < n) (e : d ≡ digitValue (get_or t i 0)) where
+  module _ (i v d : ℕ) (r : DigitsRead t base n i v) (h : i < n) (e : d ≡ digit_value (get_or t i 0)) where
     pub no_digit : base ≤ d → none ≡ number base n t
     unfolding number
     no_digit l =
-        let k : base ≤ digitValue (get_or t i 0) = omega arith in
-        rw (all-fails (digitOf base) t n i h (omega arith) (le-ltb (digitValue (get_or t i 0)) base k), and-false (leb n (length t)))
+        let k : base ≤ digit_value (get_or t i 0) = omega arith in
+        rw (all_fails (digit_of base) t n i h (omega arith) (le-ltb (digit_value (get_or t i 0)) base k), and_false (leb n (length t)))
 
     module _ (l : d < base) (b : base ≤ 16) where
       grown : v * base + d < 16 ^ (i + 1)
@@ -74,18 +74,18 @@ module _ (t : Bytes) (base n : ℕ) where
           let k : i + 1 ≤ 8 = omega arith in
           omega (arith, grown, pow-le-pow_right {n = 16} (lit< tt) k)
 
-      pub one-digit : DigitsRead t base n (i + 1) (v * base + d)
+      pub one_digit : DigitsRead t base n (i + 1) (v * base + d)
       unfolding all
-      one-digit =
+      one_digit =
           let q : take (i + 1) t ≡ take i t ++ get_or t i 0 ∷ [] = rw add-one (take-suc t i 0 (omega arith)) in
-          let k : digitValue (get_or t i 0) < base = omega arith in
+          let k : digit_value (get_or t i 0) < base = omega arith in
           record {
             few = omega arith;
             there = r.there;
             digits =
-                ap (all (digitOf base)) q ∙ all_append (digitOf base) (take i t) (get_or t i 0 ∷ [])
-                ∙ rw (r.digits, lt-ltb (digitValue (get_or t i 0)) base k);
-            value-is = sym (ap (value base) q ∙ value-snoc base (take i t) (get_or t i 0) ∙ rw (← r.value-is, ← e));
+                ap (all (digit_of base)) q ∙ all_append (digit_of base) (take i t) (get_or t i 0 ∷ [])
+                ∙ rw (r.digits, lt-ltb (digit_value (get_or t i 0)) base k);
+            value_is = sym (ap (value base) q ∙ value_snoc base (take i t) (get_or t i 0) ∙ rw (← r.value_is, ← e));
             small = grown;
           }
 
@@ -93,4 +93,4 @@ module _ (t : Bytes) (base n : ℕ) where
   unfolding number
   all_digits i v r h =
       let e : n ≡ i = omega arith in
-      rw (r.value-is, e, le-leb i (length t) (omega arith), r.digits)
+      rw (r.value_is, e, le-leb i (length t) (omega arith), r.digits)

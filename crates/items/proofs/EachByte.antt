@@ -21,6 +21,6 @@ passes p (suc n) b t l h =
     (λ e. rw (eqb-true b (suc n) e) (and_left (p (suc n)) (up_to n p) t))
     (λ e. again (omega (arith, eqb-false b (suc n) e)))
 
-pub each-byte : (p : ℕ → Bool) → up_to 0xFF p ≡ true → (b : ℕ) → between 1 0xFF b ≡ true → p b ≡ true
-each-byte p t b h =
+pub each_byte : (p : ℕ → Bool) → up_to 0xFF p ≡ true → (b : ℕ) → between 1 0xFF b ≡ true → p b ≡ true
+each_byte p t b h =
     passes p 0xFF b t (leb-true 1 b (and_left (leb 1 b) (leb b 0xFF) h)) (leb-true b 0xFF (and_right (leb 1 b) (leb b 0xFF) h))

@@ -14,49 +14,49 @@ use Rattle.lines.specs.Utf8.{encoded}
 use Rattle.lines.specs.Answers.{Outcome, accepted, refused}
 use Rattle.lines.proofs.Bools.{by_cases, and_left, and_right}
 use Rattle.lines.proofs.Slices.{opened}
-use Rattle.items.specs.Escapes.{number, Escaped, codePoint, numeric, byteEscape, pointEscape, byte_of, letters, digitEscape, letterEscape, escape}
-use Rattle.items.specs.Steps.{letterMeans, fewBytes, escapeMeans, AtMostFour, EscapeIs, ErrorOf}
+use Rattle.items.specs.Escapes.{number, Escaped, code_point, numeric, byte_escape, point_escape, byte_of, letters, digit_escape, letter_escape, escape}
+use Rattle.items.specs.Steps.{letter_means, few_bytes, escape_means, AtMostFour, EscapeIs, ErrorOf}
 use Rattle.items.specs.Answers.{number_of, place_of}
 use Rattle.items.specs.declared.error.Error.{Error}
 use Rattle.items.specs.declared.escapes.Few.{Few}
 use Rattle.items.specs.declared.escapes.Escape.{Escape}
 use Rattle.items.specs.declared.escapes.Escape.TheVariants.{Bytes as EscapeBytes, Refused as EscapeRefused}
 
-pub point-below : (v : ℕ) → codePoint v ≡ true → v ≤ 0x10FFFF
-point-below v h =
+pub point_below : (v : ℕ) → code_point v ≡ true → v ≤ 0x10FFFF
+point_below v h =
     leb-true v 0x10FFFF (and_right (leb 1 v) (leb v 0x10FFFF) (and_left (between 1 0x10FFFF v) (not (between 0xD800 0xDFFF v)) h))
 
 -- ---- the numbers that are allowed
 
-pub point-zero : (v : ℕ) → v < 1 → false ≡ codePoint v
-point-zero v h = rw (lt-leb 1 v h)
+pub point_zero : (v : ℕ) → v < 1 → false ≡ code_point v
+point_zero v h = rw (lt-leb 1 v h)
 
 module _ (v : ℕ) (low : 1 ≤ v) where
-  pub point-above : 0x10FFFF < v → false ≡ codePoint v
-  point-above h = rw (le-leb 1 v low, lt-leb v 0x10FFFF h)
+  pub point_above : 0x10FFFF < v → false ≡ code_point v
+  point_above h = rw (le-leb 1 v low, lt-leb v 0x10FFFF h)
 
   module _ (high : v ≤ 0x10FFFF) where
-    pub point-before : v < 0xD800 → true ≡ codePoint v
-    point-before h = rw (le-leb 1 v low, le-leb v 0x10FFFF high, lt-leb 0xD800 v h)
+    pub point_before : v < 0xD800 → true ≡ code_point v
+    point_before h = rw (le-leb 1 v low, le-leb v 0x10FFFF high, lt-leb 0xD800 v h)
 
-    pub point-surrogate : 0xD800 ≤ v → v ≤ 0xDFFF → false ≡ codePoint v
-    point-surrogate h k = rw (le-leb 1 v low, le-leb v 0x10FFFF high, le-leb 0xD800 v h, le-leb v 0xDFFF k)
+    pub point_surrogate : 0xD800 ≤ v → v ≤ 0xDFFF → false ≡ code_point v
+    point_surrogate h k = rw (le-leb 1 v low, le-leb v 0x10FFFF high, le-leb 0xD800 v h, le-leb v 0xDFFF k)
 
-    pub point-behind : 0xD800 ≤ v → 0xDFFF < v → true ≡ codePoint v
-    point-behind h k = rw (le-leb 1 v low, le-leb v 0x10FFFF high, le-leb 0xD800 v h, lt-leb v 0xDFFF k)
+    pub point_behind : 0xD800 ≤ v → 0xDFFF < v → true ≡ code_point v
+    point_behind h k = rw (le-leb 1 v low, le-leb v 0x10FFFF high, le-leb 0xD800 v h, lt-leb v 0xDFFF k)
 
 module _ (taken at v : ℕ) where
-  pub byte-zero : v < 1 → refused 25 at ≡ byteEscape taken at (some v)
+  pub byte_zero : v < 1 → refused 25 at ≡ byte_escape taken at (some v)
   unfolding numeric
-  byte-zero h = rw (lt-leb 1 v h)
+  byte_zero h = rw (lt-leb 1 v h)
 
-  pub byte_above : 1 ≤ v → 0xFF < v → refused 25 at ≡ byteEscape taken at (some v)
+  pub byte_above : 1 ≤ v → 0xFF < v → refused 25 at ≡ byte_escape taken at (some v)
   unfolding numeric
   byte_above l h = rw (le-leb 1 v l, lt-leb v 0xFF h)
 
-  pub byte-given : 1 ≤ v → v ≤ 0xFF → accepted (record { bytes = v ∷ []; taken = taken }) ≡ byteEscape taken at (some v)
+  pub byte_given : 1 ≤ v → v ≤ 0xFF → accepted (record { bytes = v ∷ []; taken = taken }) ≡ byte_escape taken at (some v)
   unfolding numeric
-  byte-given l h = rw (le-leb 1 v l, le-leb v 0xFF h)
+  byte_given l h = rw (le-leb 1 v l, le-leb v 0xFF h)
 
 -- ---- sizes
 
@@ -78,9 +78,9 @@ numeric-sized allowed give taken at n none h g = tt
 numeric-sized allowed give taken at n (some v) h g =
     by_cases (allowed v) (λ e. rw e (h v refl, g v)) (λ e. rw e tt)
 
-encoded-short : (v : ℕ) → length (encoded v) ≤ 4
+encoded_short : (v : ℕ) → length (encoded v) ≤ 4
 unfolding encoded
-encoded-short v =
+encoded_short v =
     by_cases (leb v 0x7F) (λ e. rw e (omega arith))
     (λ e. by_cases (leb v 0x7FF) (λ f. rw (e, f) (omega arith))
     (λ f. by_cases (leb v 0xFFFF) (λ g. rw (e, f, g) (omega arith)) (λ g. rw (e, f, g) (omega arith))))
@@ -89,15 +89,15 @@ either : (P : Outcome Escaped → Type 0) (b : Bool) (x y : Outcome Escaped) →
 either P true x y p q = p
 either P false x y p q = q
 
-digits-sized : (at c : ℕ) (t : Bytes) → Sized (suc (length t)) (digitEscape at c t)
-unfolding digitEscape
-digits-sized at c t =
+digits_sized : (at c : ℕ) (t : Bytes) → Sized (suc (length t)) (digit_escape at c t)
+unfolding digit_escape
+digits_sized at c t =
     either P (eqb c 0x78) _ _
     (numeric-sized _ _ 3 at n (number 16 2 t) (λ v e. omega (arith, number-there 16 2 t v e)) (λ v. omega arith))
     (either P (eqb c 0x75) _ _
-    (numeric-sized _ _ 5 at n (number 16 4 t) (λ v e. omega (arith, number-there 16 4 t v e)) (λ v. omega (arith, encoded-short v)))
+    (numeric-sized _ _ 5 at n (number 16 4 t) (λ v e. omega (arith, number-there 16 4 t v e)) (λ v. omega (arith, encoded_short v)))
     (either P (eqb c 0x55) _ _
-    (numeric-sized _ _ 9 at n (number 16 8 t) (λ v e. omega (arith, number-there 16 8 t v e)) (λ v. omega (arith, encoded-short v)))
+    (numeric-sized _ _ 9 at n (number 16 8 t) (λ v e. omega (arith, number-there 16 8 t v e)) (λ v. omega (arith, encoded_short v)))
     (numeric-sized _ _ 3 at n (number 8 3 (c ∷ t)) (λ v e. number-there 8 3 (c ∷ t) v e) (λ v. omega arith))))
   where
     n : ℕ
@@ -106,8 +106,8 @@ digits-sized at c t =
     P : Outcome Escaped → Type 0
     P = Sized n
 
-letter-sized : (o : Option ℕ) (r : Outcome Escaped) (n : ℕ) → 1 ≤ n → Sized n r → Sized n (letterEscape o r)
-unfolding letterEscape
+letter-sized : (o : Option ℕ) (r : Outcome Escaped) (n : ℕ) → 1 ≤ n → Sized n r → Sized n (letter_escape o r)
+unfolding letter_escape
 letter-sized none r n l h = h
 letter-sized (some b) r n l h = (l, omega arith)
 
@@ -115,58 +115,58 @@ pub escape-sized : (at : ℕ) (t : Bytes) → Sized (length t) (escape at t)
 unfolding escape
 escape-sized at [] = tt
 escape-sized at (c ∷ t) =
-    letter-sized (byte_of letters c) (digitEscape at c t) (suc (length t)) (omega arith) (digits-sized at c t)
+    letter-sized (byte_of letters c) (digit_escape at c t) (suc (length t)) (omega arith) (digits_sized at c t)
 
 -- ---- by the byte behind the backslash
 
-pub escape-same : (o o' : Outcome Escaped) (r : Escape) → o ≡ o' → EscapeIs o r → EscapeIs o' r
-escape-same o o' r e h = record { means = h.means ∙ e; short = h.short }
+pub escape_same : (o o' : Outcome Escaped) (r : Escape) → o ≡ o' → EscapeIs o r → EscapeIs o' r
+escape_same o o' r e h = record { means = h.means ∙ e; short = h.short }
 
 -- an answer that has bytes
-pub bytes-answer : (o : Outcome Escaped) (r : Escape) (f : Few) (n : ℕ) → EscapeIs o r → r ≡ EscapeBytes f n
-    → (o ≡ accepted (record { bytes = fewBytes f; taken = n })) × (f.count ≤ 4)
-bytes-answer o r f n h q = (sym h.means ∙ ap escapeMeans q, subst AtMostFour q h.short)
+pub bytes_answer : (o : Outcome Escaped) (r : Escape) (f : Few) (n : ℕ) → EscapeIs o r → r ≡ EscapeBytes f n
+    → (o ≡ accepted (record { bytes = few_bytes f; taken = n })) × (f.count ≤ 4)
+bytes_answer o r f n h q = (sym h.means ∙ ap escape_means q, subst AtMostFour q h.short)
 
 -- an answer that is refused, and its error
-pub refused-answer : (o : Outcome Escaped) (r : Escape) (d e : Error) → EscapeIs o r → r ≡ EscapeRefused d → ErrorOf r e
+pub refused_answer : (o : Outcome Escaped) (r : Escape) (d e : Error) → EscapeIs o r → r ≡ EscapeRefused d → ErrorOf r e
     → o ≡ refused (number_of e) (place_of e)
-refused-answer o r d e h q w =
+refused_answer o r d e h q w =
     let k : e ≡ d = subst (λ (x : Escape). ErrorOf x e) q w in
-    sym h.means ∙ ap escapeMeans q ∙ rw k
+    sym h.means ∙ ap escape_means q ∙ rw k
 
 module _ (at : ℕ) (t : Bytes) (c : ℕ) (n : Option ℕ) where
-  pub by-x : c ≡ 0x78 → n ≡ number 16 2 t → byteEscape 3 at n ≡ digitEscape at c t
-  unfolding digitEscape
-  by-x e q = rw (e, q)
+  pub by_x : c ≡ 0x78 → n ≡ number 16 2 t → byte_escape 3 at n ≡ digit_escape at c t
+  unfolding digit_escape
+  by_x e q = rw (e, q)
 
   module _ (x : c ≡ 0x78 → ⊥) where
-    pub by-u : c ≡ 0x75 → n ≡ number 16 4 t → pointEscape 5 at n ≡ digitEscape at c t
-    unfolding digitEscape
-    by-u e q = rw (ne_eqb c 0x78 x, e, q)
+    pub by_u : c ≡ 0x75 → n ≡ number 16 4 t → point_escape 5 at n ≡ digit_escape at c t
+    unfolding digit_escape
+    by_u e q = rw (ne_eqb c 0x78 x, e, q)
 
     module _ (u : c ≡ 0x75 → ⊥) where
-      pub by-U : c ≡ 0x55 → n ≡ number 16 8 t → pointEscape 9 at n ≡ digitEscape at c t
-      unfolding digitEscape
-      by-U e q = rw (ne_eqb c 0x78 x, ne_eqb c 0x75 u, e, q)
+      pub by_U : c ≡ 0x55 → n ≡ number 16 8 t → point_escape 9 at n ≡ digit_escape at c t
+      unfolding digit_escape
+      by_U e q = rw (ne_eqb c 0x78 x, ne_eqb c 0x75 u, e, q)
 
-      pub by-octal : (c ≡ 0x55 → ⊥) → n ≡ number 8 3 (c ∷ t) → byteEscape 3 at n ≡ digitEscape at c t
-      unfolding digitEscape
-      by-octal e q = rw (ne_eqb c 0x78 x, ne_eqb c 0x75 u, ne_eqb c 0x55 e, q)
+      pub by_octal : (c ≡ 0x55 → ⊥) → n ≡ number 8 3 (c ∷ t) → byte_escape 3 at n ≡ digit_escape at c t
+      unfolding digit_escape
+      by_octal e q = rw (ne_eqb c 0x78 x, ne_eqb c 0x75 u, ne_eqb c 0x55 e, q)
 
 module _ (at : ℕ) (s : Bytes) where
-  pub no-escape : length s ≤ at + 1 → escape at (drop (at + 1) s) ≡ refused 24 at
+  pub no_escape : length s ≤ at + 1 → escape at (drop (at + 1) s) ≡ refused 24 at
   unfolding escape
-  no-escape h = rw (drop_of_length-le s h)
+  no_escape h = rw (drop_of_length-le s h)
 
-  module _ (h : at + 1 < length s) (b : ℕ) (l : letterMeans b ≡ byte_of letters (get_or s (at + 1) 0)) where
-    pub by-letter : (b ≡ 0 → ⊥) → escape at (drop (at + 1) s) ≡ accepted (record { bytes = b ∷ []; taken = 1 })
-    unfolding escape letterEscape
-    by-letter z =
+  module _ (h : at + 1 < length s) (b : ℕ) (l : letter_means b ≡ byte_of letters (get_or s (at + 1) 0)) where
+    pub by_letter : (b ≡ 0 → ⊥) → escape at (drop (at + 1) s) ≡ accepted (record { bytes = b ∷ []; taken = 1 })
+    unfolding escape letter_escape
+    by_letter z =
         let e : byte_of letters (get_or s (at + 1) 0) ≡ some b = sym l ∙ rw (ne_eqb b 0 z) in
         rw (opened s (at + 1) h, e)
 
-    pub by_digits : b ≡ 0 → (u : Bytes) → u ≡ drop (at + 1) s → digitEscape at (get_or u 0 0) (drop 1 u) ≡ escape at (drop (at + 1) s)
-    unfolding escape letterEscape
+    pub by_digits : b ≡ 0 → (u : Bytes) → u ≡ drop (at + 1) s → digit_escape at (get_or u 0 0) (drop 1 u) ≡ escape at (drop (at + 1) s)
+    unfolding escape letter_escape
     by_digits z u q =
         let e : byte_of letters (get_or s (at + 1) 0) ≡ none = sym l ∙ rw z in
         rw (q, opened s (at + 1) h, e)

@@ -9,55 +9,55 @@ use lib.ListN.{length, length-append}
 use lib.Seq.{length-take-le}
 use Rattle.lines.specs.Bytes.{Bytes}
 use Rattle.lines.specs.Buffers.{put}
-use Rattle.lines.proofs.Buffers.{put-nil, put-put}
+use Rattle.lines.proofs.Buffers.{put_nil, put-put}
 use Rattle.items.specs.Pieces.{Piece}
-use Rattle.items.specs.Split.{Step, item, end, refusal, withBytes}
-use Rattle.items.specs.Steps.{fewBytes, piecesAt, rest_of, PieceAt, BytesAt, EndsAt, ItemRead}
+use Rattle.items.specs.Split.{Step, item, end, refusal, with_bytes}
+use Rattle.items.specs.Steps.{few_bytes, pieces_at, rest_of, PieceAt, BytesAt, EndsAt, ItemRead}
 use Rattle.items.specs.declared.escapes.Few.{Few}
 use Rattle.items.specs.declared.pieces.Mode.{Mode}
 use Rattle.items.specs.declared.pieces.Piece as code
 
 -- ---- bytes before the rest of an item
 
-with-nil : (s : Step) → s ≡ withBytes [] s
-unfolding withBytes
-with-nil (item bs ps) = refl
-with-nil end = refl
-with-nil (refusal n p) = refl
+with_nil : (s : Step) → s ≡ with_bytes [] s
+unfolding with_bytes
+with_nil (item bs ps) = refl
+with_nil end = refl
+with_nil (refusal n p) = refl
 
-with-both : (a b : Bytes) (s : Step) → withBytes a (withBytes b s) ≡ withBytes (a ++ b) s
-unfolding withBytes
-with-both a b (item bs ps) = ap (λ (l : Bytes). item l ps) (sym (append_assoc a b bs))
-with-both a b end = refl
-with-both a b (refusal n p) = refl
+with_both : (a b : Bytes) (s : Step) → with_bytes a (with_bytes b s) ≡ with_bytes (a ++ b) s
+unfolding with_bytes
+with_both a b (item bs ps) = ap (λ (l : Bytes). item l ps) (sym (append_assoc a b bs))
+with_both a b end = refl
+with_both a b (refusal n p) = refl
 
-with_item : (a : Bytes) (ps : List Piece) → withBytes a (item [] ps) ≡ item a ps
-unfolding withBytes
+with_item : (a : Bytes) (ps : List Piece) → with_bytes a (item [] ps) ≡ item a ps
+unfolding with_bytes
 with_item a ps = ap (λ (l : Bytes). item l ps) (append-nil a)
 
-with-refusal : (a : Bytes) (n p : ℕ) → withBytes a (refusal n p) ≡ refusal n p
-unfolding withBytes
-with-refusal a n p = refl
+with_refusal : (a : Bytes) (n p : ℕ) → with_bytes a (refusal n p) ≡ refusal n p
+unfolding with_bytes
+with_refusal a n p = refl
 
 -- ---- the loop
 
 -- d is the buffer as it was
 pub record Reading (t : Bytes) (m : Mode) (start n : ℕ) (d buffer : Bytes) (at size : ℕ) : Type 0 where
   pub bytes : Bytes
-  pub step : rest_of m (piecesAt t start) ≡ withBytes bytes (rest_of m (piecesAt t at))
-  pub buffer-is : buffer ≡ put d n bytes
+  pub step : rest_of m (pieces_at t start) ≡ with_bytes bytes (rest_of m (pieces_at t at))
+  pub buffer_is : buffer ≡ put d n bytes
   pub size_is : size ≡ n + length bytes
   pub fits : size ≤ at
   pub inside : at ≤ length t
   pub same : length buffer ≡ length d
 
 module _ (t : Bytes) (m : Mode) (start n : ℕ) (d : Bytes) where
-  pub reading-start : start ≤ length t → n ≤ start → Reading t m start n d d start n
-  reading-start h k =
+  pub reading_start : start ≤ length t → n ≤ start → Reading t m start n d d start n
+  reading_start h k =
       record {
         bytes = [];
-        step = with-nil (rest_of m (piecesAt t start));
-        buffer-is = sym (put-nil d n);
+        step = with_nil (rest_of m (pieces_at t start));
+        buffer_is = sym (put_nil d n);
         size_is = sym (add-zero n);
         fits = k;
         inside = h;
@@ -66,38 +66,38 @@ module _ (t : Bytes) (m : Mode) (start n : ℕ) (d : Bytes) where
 
   module _ (buffer : Bytes) (at size : ℕ) (r : Reading t m start n d buffer at size) where
     -- one piece more
-    pub reading-more : (f : Few) (next : ℕ) → BytesAt m t at f next → (buffer' : Bytes) → buffer' ≡ put buffer size (fewBytes f)
+    pub reading_more : (f : Few) (next : ℕ) → BytesAt m t at f next → (buffer' : Bytes) → buffer' ≡ put buffer size (few_bytes f)
         → length buffer' ≡ length buffer → n ≤ length d → Reading t m start n d buffer' next (size + f.count)
-    reading-more f next b buffer' e l h =
-        let k : length (fewBytes f) ≡ f.count = length-take-le f.count (f.b0 ∷ f.b1 ∷ f.b2 ∷ f.b3 ∷ []) b.short in
+    reading_more f next b buffer' e l h =
+        let k : length (few_bytes f) ≡ f.count = length-take-le f.count (f.b0 ∷ f.b1 ∷ f.b2 ∷ f.b3 ∷ []) b.short in
         record {
-          bytes = r.bytes ++ fewBytes f;
-          step = r.step ∙ ap (withBytes r.bytes) b.step ∙ with-both r.bytes (fewBytes f) (rest_of m (piecesAt t next));
-          buffer-is =
-              e ∙ ap (λ (x : Bytes). put x size (fewBytes f)) r.buffer-is ∙ ap (λ (i : ℕ). put (put d n r.bytes) i (fewBytes f)) r.size_is
-              ∙ put-put d n r.bytes (fewBytes f) h;
-          size_is = omega (arith, k, r.size_is, length-append r.bytes (fewBytes f));
+          bytes = r.bytes ++ few_bytes f;
+          step = r.step ∙ ap (with_bytes r.bytes) b.step ∙ with_both r.bytes (few_bytes f) (rest_of m (pieces_at t next));
+          buffer_is =
+              e ∙ ap (λ (x : Bytes). put x size (few_bytes f)) r.buffer_is ∙ ap (λ (i : ℕ). put (put d n r.bytes) i (few_bytes f)) r.size_is
+              ∙ put-put d n r.bytes (few_bytes f) h;
+          size_is = omega (arith, k, r.size_is, length-append r.bytes (few_bytes f));
           fits = omega (arith, b.fits, r.fits);
           inside = b.inside;
           same = l ∙ r.same;
         }
 
     -- the item has ended
-    pub reading-ended : (next : ℕ) → EndsAt m t at next → ItemRead t (rest_of m (piecesAt t start)) n d buffer next size
-    reading-ended next e =
+    pub reading_ended : (next : ℕ) → EndsAt m t at next → ItemRead t (rest_of m (pieces_at t start)) n d buffer next size
+    reading_ended next e =
         record {
           bytes = r.bytes;
-          step = r.step ∙ ap (withBytes r.bytes) e.step ∙ with_item r.bytes (piecesAt t next);
-          buffer = r.buffer-is;
+          step = r.step ∙ ap (with_bytes r.bytes) e.step ∙ with_item r.bytes (pieces_at t next);
+          buffer = r.buffer_is;
           size = r.size_is;
           fits = omega (arith, r.fits, e.later);
           inside = e.inside;
         }
 
     -- a refusal was met
-    pub reading-refused : (k p : ℕ) → rest_of m (piecesAt t at) ≡ refusal k p → rest_of m (piecesAt t start) ≡ refusal k p
-    reading-refused k p e = r.step ∙ ap (withBytes r.bytes) e ∙ with-refusal r.bytes k p
+    pub reading_refused : (k p : ℕ) → rest_of m (pieces_at t at) ≡ refusal k p → rest_of m (pieces_at t start) ≡ refusal k p
+    reading_refused k p e = r.step ∙ ap (with_bytes r.bytes) e ∙ with_refusal r.bytes k p
 
 -- an answer that is known
-pub piece-known : (m : Mode) (t : Bytes) (at : ℕ) (r r' : code.Piece) → r ≡ r' → PieceAt m t at r → PieceAt m t at r'
-piece-known m t at r r' e h = subst (PieceAt m t at) e h
+pub piece_known : (m : Mode) (t : Bytes) (at : ℕ) (r r' : code.Piece) → r ≡ r' → PieceAt m t at r → PieceAt m t at r'
+piece_known m t at r r' e h = subst (PieceAt m t at) e h

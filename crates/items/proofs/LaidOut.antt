@@ -11,57 +11,57 @@ use lib.Dec.{leb}
 use borrow.Author.Tests.{leb-true, le-leb}
 use Rattle.lines.specs.Bytes.{Bytes}
 use Rattle.lines.proofs.Bools.{and_left, and_right, both}
-use Rattle.items.specs.Split.{bytes_of, endsFrom}
-use Rattle.items.specs.Write.{endsFit, cutFrom, items_in, lastEnd}
+use Rattle.items.specs.Split.{bytes_of, ends_from}
+use Rattle.items.specs.Write.{ends_fit, cut_from, items_in, last_end}
 use Rattle.items.specs.Laws.{LaidAgain}
 
 -- ---- cut and laid again
 
 -- the same from an offset on
 record LaidFrom (at : ℕ) (bs : Bytes) (ends : List ℕ) : Type 0 where
-  bytes : take at bs ++ bytes_of (cutFrom at bs ends) ≡ take (lastEnd at ends) bs
-  ends-again : endsFrom at (cutFrom at bs ends) ≡ ends
-  count : length (cutFrom at bs ends) ≡ length ends
-  inside : lastEnd at ends ≤ length bs
+  bytes : take at bs ++ bytes_of (cut_from at bs ends) ≡ take (last_end at ends) bs
+  ends_again : ends_from at (cut_from at bs ends) ≡ ends
+  count : length (cut_from at bs ends) ≡ length ends
+  inside : last_end at ends ≤ length bs
 
-laid_from : (ends : List ℕ) (at : ℕ) (bs : Bytes) → at ≤ length bs → endsFit at (length bs) ends ≡ true → LaidFrom at bs ends
-unfolding endsFit cutFrom bytes_of endsFrom
-laid_from [] at bs l h = record { bytes = append-nil (take at bs); ends-again = refl; count = refl; inside = l }
+laid_from : (ends : List ℕ) (at : ℕ) (bs : Bytes) → at ≤ length bs → ends_fit at (length bs) ends ≡ true → LaidFrom at bs ends
+unfolding ends_fit cut_from bytes_of ends_from
+laid_from [] at bs l h = record { bytes = append-nil (take at bs); ends_again = refl; count = refl; inside = l }
 laid_from (e ∷ es) at bs l h =
-    let two : (leb at e && leb e (length bs)) ≡ true = and_left (leb at e && leb e (length bs)) (endsFit e (length bs) es) h in
+    let two : (leb at e && leb e (length bs)) ≡ true = and_left (leb at e && leb e (length bs)) (ends_fit e (length bs) es) h in
     let low : at ≤ e = leb-true at e (and_left (leb at e) (leb e (length bs)) two) in
     let high : e ≤ length bs = leb-true e (length bs) (and_right (leb at e) (leb e (length bs)) two) in
-    let r = laid_from es e bs high (and_right (leb at e && leb e (length bs)) (endsFit e (length bs) es) h) in
+    let r = laid_from es e bs high (and_right (leb at e && leb e (length bs)) (ends_fit e (length bs) es) h) in
     let sum : at + (e - at) ≡ e = omega arith in
     let front : take at bs ++ take (e - at) (drop at bs) ≡ take e bs = sym (take-add at (e - at) bs) ∙ rw sum in
     let size : length (take (e - at) (drop at bs)) ≡ e - at =
     length-take-le (e - at) (drop at bs) (simp length-drop (omega arith)) in
     record {
-      bytes = rw (← append_assoc (take at bs) (take (e - at) (drop at bs)) (bytes_of (cutFrom e bs es)), front) r.bytes;
-      ends-again = rw (size, sum, r.ends-again);
+      bytes = rw (← append_assoc (take at bs) (take (e - at) (drop at bs)) (bytes_of (cut_from e bs es)), front) r.bytes;
+      ends_again = rw (size, sum, r.ends_again);
       count = ap suc r.count;
       inside = r.inside;
     }
 
-pub cut-laid-again : (bs : Bytes) (ends : List ℕ) → endsFit 0 (length bs) ends ≡ true → LaidAgain bs ends
-cut-laid-again bs ends h =
+pub cut_laid_again : (bs : Bytes) (ends : List ℕ) → ends_fit 0 (length bs) ends ≡ true → LaidAgain bs ends
+cut_laid_again bs ends h =
     let r = laid_from ends 0 bs (omega arith) h in
-    record { bytes = r.bytes; ends-again = r.ends-again; count = r.count; inside = r.inside }
+    record { bytes = r.bytes; ends_again = r.ends_again; count = r.count; inside = r.inside }
 
 -- ---- laid and cut again
 
 -- behind other bytes
-fits-again : (xs : List Bytes) (at size : ℕ) → at + length (bytes_of xs) ≤ size → endsFit at size (endsFrom at xs) ≡ true
-unfolding endsFit endsFrom bytes_of
-fits-again [] at size h = refl
-fits-again (x ∷ xs) at size h =
+fits_again : (xs : List Bytes) (at size : ℕ) → at + length (bytes_of xs) ≤ size → ends_fit at size (ends_from at xs) ≡ true
+unfolding ends_fit ends_from bytes_of
+fits_again [] at size h = refl
+fits_again (x ∷ xs) at size h =
     let l : length (x ++ bytes_of xs) ≡ length x + length (bytes_of xs) = length-append x (bytes_of xs) in
     both (leb at (at + length x) && leb (at + length x) size) _
     (both _ _ (le-leb at (at + length x) (omega arith)) (le-leb (at + length x) size (omega arith)))
-    (fits-again xs (at + length x) size (omega arith))
+    (fits_again xs (at + length x) size (omega arith))
 
-cut_again : (xs : List Bytes) (front : Bytes) → cutFrom (length front) (front ++ bytes_of xs) (endsFrom (length front) xs) ≡ xs
-unfolding cutFrom endsFrom bytes_of
+cut_again : (xs : List Bytes) (front : Bytes) → cut_from (length front) (front ++ bytes_of xs) (ends_from (length front) xs) ≡ xs
+unfolding cut_from ends_from bytes_of
 cut_again [] front = refl
 cut_again (x ∷ xs) front =
     let n : length front + length x - length front ≡ length x = omega arith in
@@ -74,6 +74,6 @@ cut_again (x ∷ xs) front =
       cut_again xs (front ++ x),
     )
 
-pub laid-cut-again : (xs : List Bytes)
-    → (endsFit 0 (length (bytes_of xs)) (endsFrom 0 xs) ≡ true) × (items_in (bytes_of xs) (endsFrom 0 xs) ≡ xs)
-laid-cut-again xs = (fits-again xs 0 (length (bytes_of xs)) (omega arith), cut_again xs [])
+pub laid_cut_again : (xs : List Bytes)
+    → (ends_fit 0 (length (bytes_of xs)) (ends_from 0 xs) ≡ true) × (items_in (bytes_of xs) (ends_from 0 xs) ≡ xs)
+laid_cut_again xs = (fits_again xs 0 (length (bytes_of xs)) (omega arith), cut_again xs [])

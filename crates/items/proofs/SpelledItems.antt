@@ -12,38 +12,38 @@ use Rattle.lines.specs.Bytes.{Bytes, blank, all}
 use Rattle.lines.specs.Answers.{accepted}
 use Rattle.lines.specs.Laws.{All}
 use Rattle.lines.proofs.Bools.{and_left, and_right, any-all}
-use Rattle.items.specs.Pieces.{piecesFrom, pieces}
-use Rattle.items.specs.Split.{item, step, collected, items_of, forbidden, splitOf}
-use Rattle.items.specs.Grammar.{itself, escaping, allSpelt, Spelling, bare, quoted, SoundItem, itemSpelt, itemMeant, Spaced, SoundSpaced, Parted, text_of, itemsMeant, Spelled}
-use Rattle.items.proofs.StepLaws.{step_end, step-blank, step-quote, step-bare}
-use Rattle.items.proofs.Elements.{parts, bare-elements, quoted-elements}
+use Rattle.items.specs.Pieces.{pieces_from, pieces}
+use Rattle.items.specs.Split.{item, step, collected, items_of, forbidden, split_of}
+use Rattle.items.specs.Grammar.{itself, escaping, all_spelt, Spelling, bare, quoted, SoundItem, item_spelt, item_meant, Spaced, SoundSpaced, Parted, text_of, items_meant, Spelled}
+use Rattle.items.proofs.StepLaws.{step_end, step-blank, step-quote, step_bare}
+use Rattle.items.proofs.Elements.{parts, bare_elements, quoted_elements}
 
 -- ---- a step
 
-item-step : (n : ℕ) (s : Spelling) (at : ℕ) (t : Bytes) → SoundItem s → parts t ≡ true
-    → step (suc n) (piecesFrom 0 at (itemSpelt s ++ t)) ≡ item (itemMeant s) (piecesFrom 0 (length (itemSpelt s) + at) t)
-item-step n (bare []) at t h p = absurd (omega arith)
-item-step n (bare (itself b ∷ es)) at t h p =
-    step-bare n at b (allSpelt es ++ t) h.1.0.0 h.1.0.1 ∙ bare-elements (itself b ∷ es) at t h.1 p
-item-step n (bare (escaping u bs ∷ es)) at t h p =
-    step-bare n at 0x5C (u ++ allSpelt es ++ t) refl refl ∙ bare-elements (escaping u bs ∷ es) at t h.1 p
-item-step n (quoted q es) at t h p =
-    let o : suc (length (allSpelt es) + suc at) ≡ suc (length (allSpelt es ++ q ∷ [])) + at = simp length-append (omega arith) in
+item_step : (n : ℕ) (s : Spelling) (at : ℕ) (t : Bytes) → SoundItem s → parts t ≡ true
+    → step (suc n) (pieces_from 0 at (item_spelt s ++ t)) ≡ item (item_meant s) (pieces_from 0 (length (item_spelt s) + at) t)
+item_step n (bare []) at t h p = absurd (omega arith)
+item_step n (bare (itself b ∷ es)) at t h p =
+    step_bare n at b (all_spelt es ++ t) h.1.0.0 h.1.0.1 ∙ bare_elements (itself b ∷ es) at t h.1 p
+item_step n (bare (escaping u bs ∷ es)) at t h p =
+    step_bare n at 0x5C (u ++ all_spelt es ++ t) refl refl ∙ bare_elements (escaping u bs ∷ es) at t h.1 p
+item_step n (quoted q es) at t h p =
+    let o : suc (length (all_spelt es) + suc at) ≡ suc (length (all_spelt es ++ q ∷ [])) + at = simp length-append (omega arith) in
     rw (
-      append_assoc (allSpelt es) (q ∷ []) t,
-      step-quote n at q (allSpelt es ++ q ∷ t) h.0,
-      quoted-elements q at es (suc at) t h.0 h.1 p,
+      append_assoc (all_spelt es) (q ∷ []) t,
+      step-quote n at q (all_spelt es ++ q ∷ t) h.0,
+      quoted_elements q at es (suc at) t h.0 h.1 p,
       o,
     )
 
-blanks-step : (n : ℕ) (a : Bytes) (at : ℕ) (t : Bytes) → all blank a ≡ true
-    → step n (piecesFrom 0 at (a ++ t)) ≡ step n (piecesFrom 0 (length a + at) t)
+blanks_step : (n : ℕ) (a : Bytes) (at : ℕ) (t : Bytes) → all blank a ≡ true
+    → step n (pieces_from 0 at (a ++ t)) ≡ step n (pieces_from 0 (length a + at) t)
 unfolding all
-blanks-step n [] at t h = rw (zero-add at)
-blanks-step n (b ∷ a) at t h =
+blanks_step n [] at t h = rw (zero-add at)
+blanks_step n (b ∷ a) at t h =
     let o : length a + suc at ≡ suc (length a) + at = omega arith in
     step-blank n at b (a ++ t) (and_left (blank b) (all blank a) h)
-    ∙ rw (← o) (blanks-step n a (suc at) t (and_right (blank b) (all blank a) h))
+    ∙ rw (← o) (blanks_step n a (suc at) t (and_right (blank b) (all blank a) h))
 
 -- ---- items
 
@@ -58,27 +58,27 @@ gap_parts s ss h p = go s.gap h ss p
     go [] h [] p = refl
     go [] h (r ∷ ss) p = absurd (omega arith)
 
-parted-rest : (s : Spaced) (ss : List Spaced) → Parted (s ∷ ss) → Parted ss
-parted-rest s [] p = tt
-parted-rest s (r ∷ ss) p = p.1
+parted_rest : (s : Spaced) (ss : List Spaced) → Parted (s ∷ ss) → Parted ss
+parted_rest s [] p = tt
+parted_rest s (r ∷ ss) p = p.1
 
-items-spelled : (ss : List Spaced) (n : ℕ) (a : Bytes) (at : ℕ) → length ss ≤ n → all blank a ≡ true → All SoundSpaced ss → Parted ss
-    → items_of n (piecesFrom 0 at (a ++ text_of ss)) ≡ accepted (itemsMeant ss)
+items_spelled : (ss : List Spaced) (n : ℕ) (a : Bytes) (at : ℕ) → length ss ≤ n → all blank a ≡ true → All SoundSpaced ss → Parted ss
+    → items_of n (pieces_from 0 at (a ++ text_of ss)) ≡ accepted (items_meant ss)
 unfolding items_of collected
-items-spelled [] zero a at l b h p = rw (blanks-step zero a at [] b, step_end zero (length a + at))
-items-spelled [] (suc n) a at l b h p = rw (blanks-step (suc n) a at [] b, step_end (suc n) (length a + at))
-items-spelled (s ∷ ss) zero a at l b h p = absurd (omega arith)
-items-spelled (s ∷ ss) (suc n) a at l b h p =
-    let i : Bytes = itemSpelt s.item in
+items_spelled [] zero a at l b h p = rw (blanks_step zero a at [] b, step_end zero (length a + at))
+items_spelled [] (suc n) a at l b h p = rw (blanks_step (suc n) a at [] b, step_end (suc n) (length a + at))
+items_spelled (s ∷ ss) zero a at l b h p = absurd (omega arith)
+items_spelled (s ∷ ss) (suc n) a at l b h p =
+    let i : Bytes = item_spelt s.item in
     rw (
       append_assoc i s.gap (text_of ss),
-      blanks-step (suc n) a at (i ++ (s.gap ++ text_of ss)) b,
-      item-step n s.item (length a + at) (s.gap ++ text_of ss) h.0.sound (gap_parts s ss h.0.blanks p),
-      items-spelled ss n s.gap (length i + (length a + at)) (omega arith) h.0.blanks h.1 (parted-rest s ss p),
+      blanks_step (suc n) a at (i ++ (s.gap ++ text_of ss)) b,
+      item_step n s.item (length a + at) (s.gap ++ text_of ss) h.0.sound (gap_parts s ss h.0.blanks p),
+      items_spelled ss n s.gap (length i + (length a + at)) (omega arith) h.0.blanks h.1 (parted_rest s ss p),
     )
 
-pub spelled-splits : (t : Bytes) (xs : List Bytes) → Spelled t xs → splitOf t ≡ accepted xs
-unfolding splitOf pieces
-spelled-splits t xs s =
+pub spelled_splits : (t : Bytes) (xs : List Bytes) → Spelled t xs → split_of t ≡ accepted xs
+unfolding split_of pieces
+spelled_splits t xs s =
     rw (le-ltb 4096 (length t) s.short, any-all forbidden t, s.allowed, s.text, s.items)
-    (items-spelled s.list 256 s.before 0 s.few s.before-blank s.sound s.parted)
+    (items_spelled s.list 256 s.before 0 s.few s.before_blank s.sound s.parted)

@@ -8,48 +8,48 @@ use Rattle.lines.specs.Bytes.{Bytes}
 use Rattle.lines.specs.Answers.{accepted}
 use Rattle.lines.specs.Laws.{All}
 use Rattle.items.specs.Split.{bytes_of}
-use Rattle.items.specs.Grammar.{Element, itself, escaping, spelt, meant, Gives, BareElement, QuotedElement, Spelling, bare, quoted, SoundItem, allSpelt, allMeant, itemSpelt, itemMeant, Spaced, SoundSpaced, text_of, itemsMeant, Spelled}
+use Rattle.items.specs.Grammar.{Element, itself, escaping, spelt, meant, Gives, BareElement, QuotedElement, Spelling, bare, quoted, SoundItem, all_spelt, all_meant, item_spelt, item_meant, Spaced, SoundSpaced, text_of, items_meant, Spelled}
 use Rattle.items.specs.Laws.{SplitFits}
 use Rattle.items.proofs.EscapeSteps.{Sized, escape-sized}
-use Rattle.items.proofs.ItemsBack.{split-spelled}
+use Rattle.items.proofs.ItemsBack.{split_spelled}
 
-gives-short : (t bs : Bytes) → Gives t bs → length bs ≤ length (0x5C ∷ t)
-gives-short t bs g =
+gives_short : (t bs : Bytes) → Gives t bs → length bs ≤ length (0x5C ∷ t)
+gives_short t bs g =
     let s : Sized (length (t ++ [])) (accepted (record { bytes = bs; taken = length t })) = rw (g 0 []) at (escape-sized 0 (t ++ [])) in
     omega (arith, s.1)
 
 module _ (P : Element → Type 0) (short : (e : Element) → P e → length (meant e) ≤ length (spelt e)) where
-  elements-short : (es : List Element) → All P es → length (allMeant es) ≤ length (allSpelt es)
-  elements-short [] h = omega arith
-  elements-short (e ∷ es) h =
-      omega (arith, short e h.0, elements-short es h.1, length-append (meant e) (allMeant es), length-append (spelt e) (allSpelt es))
+  elements_short : (es : List Element) → All P es → length (all_meant es) ≤ length (all_spelt es)
+  elements_short [] h = omega arith
+  elements_short (e ∷ es) h =
+      omega (arith, short e h.0, elements_short es h.1, length-append (meant e) (all_meant es), length-append (spelt e) (all_spelt es))
 
-bare-short : (e : Element) → BareElement e → length (meant e) ≤ length (spelt e)
-bare-short (itself b) h = omega arith
-bare-short (escaping t bs) h = gives-short t bs h
+bare_short : (e : Element) → BareElement e → length (meant e) ≤ length (spelt e)
+bare_short (itself b) h = omega arith
+bare_short (escaping t bs) h = gives_short t bs h
 
-quoted-short : (q : ℕ) (e : Element) → QuotedElement q e → length (meant e) ≤ length (spelt e)
-quoted-short q (itself b) h = omega arith
-quoted-short q (escaping t bs) h = gives-short t bs h
+quoted_short : (q : ℕ) (e : Element) → QuotedElement q e → length (meant e) ≤ length (spelt e)
+quoted_short q (itself b) h = omega arith
+quoted_short q (escaping t bs) h = gives_short t bs h
 
-item-short : (i : Spelling) → SoundItem i → length (itemMeant i) ≤ length (itemSpelt i)
-item-short (bare es) h = elements-short BareElement bare-short es h.1
-item-short (quoted q es) h =
-    omega (arith, elements-short (QuotedElement q) (quoted-short q) es h.1, length-append (allSpelt es) (q ∷ []))
+item_short : (i : Spelling) → SoundItem i → length (item_meant i) ≤ length (item_spelt i)
+item_short (bare es) h = elements_short BareElement bare_short es h.1
+item_short (quoted q es) h =
+    omega (arith, elements_short (QuotedElement q) (quoted_short q) es h.1, length-append (all_spelt es) (q ∷ []))
 
-items-short : (ss : List Spaced) → All SoundSpaced ss → length (bytes_of (itemsMeant ss)) ≤ length (text_of ss)
+items_short : (ss : List Spaced) → All SoundSpaced ss → length (bytes_of (items_meant ss)) ≤ length (text_of ss)
 unfolding bytes_of
-items-short [] h = omega arith
-items-short (s ∷ ss) h =
-    omega (arith, item-short s.item h.0.sound, items-short ss h.1, length-append (itemMeant s.item) (bytes_of (itemsMeant ss)), length-append (itemSpelt s.item ++ s.gap) (text_of ss), length-append (itemSpelt s.item) s.gap)
+items_short [] h = omega arith
+items_short (s ∷ ss) h =
+    omega (arith, item_short s.item h.0.sound, items_short ss h.1, length-append (item_meant s.item) (bytes_of (items_meant ss)), length-append (item_spelt s.item ++ s.gap) (text_of ss), length-append (item_spelt s.item) s.gap)
 
-items-many : (ss : List Spaced) → length (itemsMeant ss) ≡ length ss
-items-many [] = refl
-items-many (s ∷ ss) = omega (arith, items-many ss)
+items_many : (ss : List Spaced) → length (items_meant ss) ≡ length ss
+items_many [] = refl
+items_many (s ∷ ss) = omega (arith, items_many ss)
 
-pub split-fits : SplitFits
-split-fits t xs h =
-    let s : Spelled t xs = split-spelled t xs h in (
-      omega (arith, items-short s.list s.sound, ap length s.text, length-append s.before (text_of s.list), ap (λ (l : List Bytes). length (bytes_of l)) s.items),
-      omega (arith, s.few, ap length s.items, items-many s.list),
+pub split_fits : SplitFits
+split_fits t xs h =
+    let s : Spelled t xs = split_spelled t xs h in (
+      omega (arith, items_short s.list s.sound, ap length s.text, length-append s.before (text_of s.list), ap (λ (l : List Bytes). length (bytes_of l)) s.items),
+      omega (arith, s.few, ap length s.items, items_many s.list),
     )

@@ -7,47 +7,47 @@ use lib.ListN.{length, get_or}
 use Rattle.lines.specs.Bytes.{Bytes}
 use Rattle.lines.proofs.Bools.{by_cases}
 use Rattle.items.specs.Pieces.{backslash, quote}
-use Rattle.items.specs.Split.{end, refusal, item_at, pastBlanks, begun, step}
+use Rattle.items.specs.Split.{end, refusal, item_at, past_blanks, begun, step}
 use Rattle.items.specs.Split as split
-use Rattle.items.specs.Steps.{piecesAt, rest_of, BlanksPassed, StepTaken}
+use Rattle.items.specs.Steps.{pieces_at, rest_of, BlanksPassed, StepTaken}
 use Rattle.items.specs.declared.pieces.Mode.TheVariants.{Bare, Quoted}
 use Rattle.items.specs.declared.splitter.Step as code
-use Rattle.items.proofs.PieceSteps.{at-end, at_plain, not-backslash, some-escape, nonblank}
+use Rattle.items.proofs.PieceSteps.{at_end, at_plain, not_backslash, some_escape, nonblank}
 
 module _ (t : Bytes) (n start r : ℕ) (b : BlanksPassed t start r) where
-  pub step_end : length t ≤ r → step n (piecesAt t start) ≡ end
-  unfolding step begun pastBlanks
-  step_end h = rw (b.same, at-end t r h)
+  pub step_end : length t ≤ r → step n (pieces_at t start) ≡ end
+  unfolding step begun past_blanks
+  step_end h = rw (b.same, at_end t r h)
 
   module _ (h : r < length t) where
     -- what stands there is no blank
-    stands : pastBlanks (piecesAt t r) ≡ piecesAt t r
-    unfolding pastBlanks
-    stands = let p = nonblank t r h (b.stands h) in rw (p.pieces_are, p.no-blank)
+    stands : past_blanks (pieces_at t r) ≡ pieces_at t r
+    unfolding past_blanks
+    stands = let p = nonblank t r h (b.stands h) in rw (p.pieces_are, p.no_blank)
 
-    here : step n (piecesAt t start) ≡ begun n (piecesAt t r)
+    here : step n (pieces_at t start) ≡ begun n (pieces_at t r)
     unfolding step
     here = rw (b.same, stands)
 
-    pub step-many : n ≡ 0 → step n (piecesAt t start) ≡ refusal 26 r
+    pub step_many : n ≡ 0 → step n (pieces_at t start) ≡ refusal 26 r
     unfolding begun
-    step-many z = let p = nonblank t r h (b.stands h) in here ∙ rw (z, p.pieces_are, p.offset-is)
+    step_many z = let p = nonblank t r h (b.stands h) in here ∙ rw (z, p.pieces_are, p.offset_is)
 
     module _ (z : n ≡ 0 → ⊥) where
       some : n ≡ suc (n - 1)
       some = omega (arith, z)
 
-      pub step-quoted : quote (get_or t r 0) ≡ true → step n (piecesAt t start) ≡ rest_of (Quoted (get_or t r 0) r) (piecesAt t (r + 1))
+      pub step_quoted : quote (get_or t r 0) ≡ true → step n (pieces_at t start) ≡ rest_of (Quoted (get_or t r 0) r) (pieces_at t (r + 1))
       unfolding begun item_at rest_of
-      step-quoted q =
-          here ∙ rw (some, at_plain t r h (not-backslash quote (get_or t r 0) refl q), q)
+      step_quoted q =
+          here ∙ rw (some, at_plain t r h (not_backslash quote (get_or t r 0) refl q), q)
 
-      pub step-bare : quote (get_or t r 0) ≡ false → step n (piecesAt t start) ≡ rest_of Bare (piecesAt t r)
+      pub step_bare : quote (get_or t r 0) ≡ false → step n (pieces_at t start) ≡ rest_of Bare (pieces_at t r)
       unfolding begun item_at rest_of
-      step-bare q =
+      step_bare q =
           here ∙ rw some
           (by_cases (backslash (get_or t r 0))
-          (λ y. rw (some-escape t r h y).1)
+          (λ y. rw (some_escape t r h y).1)
           (λ f. rw (at_plain t r h f, q)))
 
 -- the promise of a step, where the step is known
@@ -55,6 +55,6 @@ pub same_step : (t : Bytes) (s s' : split.Step) (n : ℕ) (before after : Bytes)
     → StepTaken t s' n before after r → StepTaken t s n before after r
 same_step t s s' n before after r e h = subst (λ (x : split.Step). StepTaken t x n before after r) (sym e) h
 
-pub step-known : (t : Bytes) (s : split.Step) (n : ℕ) (before after : Bytes) (r r' : code.Step) → r ≡ r'
+pub step_known : (t : Bytes) (s : split.Step) (n : ℕ) (before after : Bytes) (r r' : code.Step) → r ≡ r'
     → StepTaken t s n before after r → StepTaken t s n before after r'
-step-known t s n before after r r' e h = subst (StepTaken t s n before after) e h
+step_known t s n before after r r' e h = subst (StepTaken t s n before after) e h

@@ -5,28 +5,28 @@ use Prim.Native.Nat.{ℕ, suc}
 use mathlib.Core.Bool.{true, false}
 use mathlib.Core.List.{[], ◌∷◌}
 use Rattle.lines.specs.Bytes.{Bytes, blank}
-use Rattle.lines.proofs.Bools.{by_cases, neq-byte}
-use Rattle.items.specs.Pieces.{backslash, quote, piecesFrom}
-use Rattle.items.specs.Split.{end, bareItem, quotedItem, item_at, pastBlanks, begun, step}
-use Rattle.items.proofs.PieceLaws.{pieces-nil, pieces-plain}
+use Rattle.lines.proofs.Bools.{by_cases, neq_byte}
+use Rattle.items.specs.Pieces.{backslash, quote, pieces_from}
+use Rattle.items.specs.Split.{end, bare_item, quoted_item, item_at, past_blanks, begun, step}
+use Rattle.items.proofs.PieceLaws.{pieces_nil, pieces-plain}
 
 pub quote-blank : (q : ℕ) → quote q ≡ true → blank q ≡ false
-quote-blank q h = rw (neq-byte quote 0x20 q refl h, neq-byte quote 0x09 q refl h)
+quote-blank q h = rw (neq_byte quote 0x20 q refl h, neq_byte quote 0x09 q refl h)
 
-pub step_end : (n at : ℕ) → step n (piecesFrom 0 at []) ≡ end
-unfolding step pastBlanks begun
-step_end n at = rw (pieces-nil at)
+pub step_end : (n at : ℕ) → step n (pieces_from 0 at []) ≡ end
+unfolding step past_blanks begun
+step_end n at = rw (pieces_nil at)
 
-pub step-blank : (n at b : ℕ) (t : Bytes) → blank b ≡ true → step n (piecesFrom 0 at (b ∷ t)) ≡ step n (piecesFrom 0 (suc at) t)
-unfolding step pastBlanks
-step-blank n at b t h = rw (pieces-plain at b t (neq-byte blank 0x5C b refl h), h)
+pub step-blank : (n at b : ℕ) (t : Bytes) → blank b ≡ true → step n (pieces_from 0 at (b ∷ t)) ≡ step n (pieces_from 0 (suc at) t)
+unfolding step past_blanks
+step-blank n at b t h = rw (pieces-plain at b t (neq_byte blank 0x5C b refl h), h)
 
 pub step-quote : (n at q : ℕ) (t : Bytes) → quote q ≡ true
-    → step (suc n) (piecesFrom 0 at (q ∷ t)) ≡ quotedItem q at (piecesFrom 0 (suc at) t)
-unfolding step pastBlanks begun item_at
-step-quote n at q t h = rw (pieces-plain at q t (neq-byte quote 0x5C q refl h), quote-blank q h, h)
+    → step (suc n) (pieces_from 0 at (q ∷ t)) ≡ quoted_item q at (pieces_from 0 (suc at) t)
+unfolding step past_blanks begun item_at
+step-quote n at q t h = rw (pieces-plain at q t (neq_byte quote 0x5C q refl h), quote-blank q h, h)
 
-pub step-bare : (n at b : ℕ) (t : Bytes) → blank b ≡ false → quote b ≡ false
-    → step (suc n) (piecesFrom 0 at (b ∷ t)) ≡ bareItem (piecesFrom 0 at (b ∷ t))
-unfolding step pastBlanks begun item_at piecesFrom bareItem
-step-bare n at b t h k = by_cases (backslash b) (λ y. rw y) (λ y. rw (y, h, k, h))
+pub step_bare : (n at b : ℕ) (t : Bytes) → blank b ≡ false → quote b ≡ false
+    → step (suc n) (pieces_from 0 at (b ∷ t)) ≡ bare_item (pieces_from 0 at (b ∷ t))
+unfolding step past_blanks begun item_at pieces_from bare_item
+step_bare n at b t h k = by_cases (backslash b) (λ y. rw y) (λ y. rw (y, h, k, h))

@@ -3,7 +3,7 @@ use Rattle.std.specs.Prelude.{◌≡◌, ℕ, List, length}
 use Rattle.lines.specs.Bytes.{Bytes}
 use Rattle.lines.specs.Answers.{Outcome, accepted, refused}
 use Rattle.lines.specs.Buffers.{filled}
-use Rattle.items.specs.Split.{bytes_of, endsFrom, splitIn}
+use Rattle.items.specs.Split.{bytes_of, ends_from, split_in}
 use Rattle.items.specs.declared.error.Error.{Error}
 use Rattle.items.specs.declared.error.Error.TheVariants.{ShortBuffer, TextTooLong, ForbiddenByte, MisplacedQuote, OpenQuote, EscapeForm, EscapeValue, TooManyItems, NulByte, BadEnds}
 use Rattle.items.specs.declared.splitter.SplitAnswer.{SplitAnswer}
@@ -36,8 +36,8 @@ place_of NulByte = 0
 place_of BadEnds = 0
 
 -- an error is a refusal
-abbrev pub errorMeans : {A : Type 0} → Error → Outcome A
-errorMeans e = refused (number_of e) (place_of e)
+abbrev pub error_means : {A : Type 0} → Error → Outcome A
+error_means e = refused (number_of e) (place_of e)
 
 -- ---- splitting
 
@@ -47,9 +47,9 @@ pub record Counts : Type 0 where
   pub bytes : ℕ
 
 -- what the answer of `split` means
-abbrev pub splitMeans : SplitAnswer → Outcome Counts
-splitMeans (Accepted n m) = accepted (record { items = n; bytes = m })
-splitMeans (Refused e) = errorMeans e
+abbrev pub split_means : SplitAnswer → Outcome Counts
+split_means (Accepted n m) = accepted (record { items = n; bytes = m })
+split_means (Refused e) = error_means e
 
 -- the counts of a list of items
 abbrev pub counted : Outcome (List Bytes) → Outcome Counts
@@ -57,25 +57,25 @@ counted (accepted xs) = accepted (record { items = length xs; bytes = length (by
 counted (refused n p) = refused n p
 
 -- the buffer of bytes afterwards: the items' bytes in front, and the rest as it was
-abbrev pub bytesAfter : Outcome (List Bytes) → Bytes → Bytes
-bytesAfter (accepted xs) d = filled (bytes_of xs) d
-bytesAfter (refused n p) d = d
+abbrev pub bytes_after : Outcome (List Bytes) → Bytes → Bytes
+bytes_after (accepted xs) d = filled (bytes_of xs) d
+bytes_after (refused n p) d = d
 
 -- and the buffer of ends
-abbrev pub endsAfter : Outcome (List Bytes) → List ℕ → List ℕ
-endsAfter (accepted xs) d = filled (endsFrom 0 xs) d
-endsAfter (refused n p) d = d
+abbrev pub ends_after : Outcome (List Bytes) → List ℕ → List ℕ
+ends_after (accepted xs) d = filled (ends_from 0 xs) d
+ends_after (refused n p) d = d
 
 -- what a call leaves in both buffers, where this is the outcome
 pub record ItemsLeft (o : Outcome (List Bytes)) (bytes : Bytes) (ends : List ℕ) (bytes' : Bytes) (ends' : List ℕ) : Type 0 where
-  pub bytes_after : bytes' ≡ bytesAfter o bytes
-  pub ends-after : ends' ≡ endsAfter o ends
+  pub new_bytes : bytes' ≡ bytes_after o bytes
+  pub new_ends : ends' ≡ ends_after o ends
 
 -- and what it answers
 pub record SplitLeaves (o : Outcome (List Bytes)) (bytes : Bytes) (ends : List ℕ) (r : SplitAnswer) (bytes' : Bytes) (ends' : List ℕ) : Type 0 where
-  pub answer : splitMeans r ≡ counted o
+  pub answer : split_means r ≡ counted o
   pub left : ItemsLeft o bytes ends bytes' ends'
 
 -- the promise of `split`: the answer, and both buffers whole
 abbrev pub Splits : (text bytes : Bytes) (ends : List ℕ) (r : SplitAnswer) (bytes' : Bytes) (ends' : List ℕ) → Type 0
-Splits text bytes ends r bytes' ends' = SplitLeaves (splitIn (length bytes) (length ends) text) bytes ends r bytes' ends'
+Splits text bytes ends r bytes' ends' = SplitLeaves (split_in (length bytes) (length ends) text) bytes ends r bytes' ends'

@@ -14,8 +14,8 @@ pub record Letter : Type 0 where
   pub byte : ℕ
 
 -- the seven letter escapes: \a \b \f \n \r \t \v
-abbrev pub controlLetters : List Letter
-controlLetters =
+abbrev pub control_letters : List Letter
+control_letters =
     record { letter = code "a"; byte = 0x07 } ∷
     record { letter = code "b"; byte = 0x08 } ∷
     record { letter = code "f"; byte = 0x0C } ∷
@@ -26,22 +26,22 @@ controlLetters =
     []
 
 -- \\ and \", read and written like the seven
-abbrev pub signLetters : List Letter
-signLetters =
+abbrev pub sign_letters : List Letter
+sign_letters =
     record { letter = code "\\"; byte = 0x5C } ∷
     record { letter = code "\""; byte = 0x22 } ∷
     []
 
 -- \' and \s (a space): read, and never written
-abbrev pub readLetters : List Letter
-readLetters =
+abbrev pub read_letters : List Letter
+read_letters =
     record { letter = code "'"; byte = 0x27 } ∷
     record { letter = code "s"; byte = 0x20 } ∷
     []
 
 -- all eleven
 abbrev pub letters : List Letter
-letters = controlLetters ++ signLetters ++ readLetters
+letters = control_letters ++ sign_letters ++ read_letters
 
 -- the byte that a letter gives, if it is listed
 unfoldable pub byte_of : List Letter → ℕ → Option ℕ
@@ -51,26 +51,26 @@ byte_of (l ∷ ls) c = cond (eqb c l.letter) (some l.byte) (byte_of ls c)
 -- ---- numbers
 
 -- what a digit stands for, hex digits in either case; 16, which no base here has, for any other byte
-abbrev pub digitValue : ℕ → ℕ
-digitValue c =
+abbrev pub digit_value : ℕ → ℕ
+digit_value c =
     cond (between 0x30 0x39 c) (c - 0x30)
     (cond (between 0x61 0x66 c) (c - 0x61 + 10)
     (cond (between 0x41 0x46 c) (c - 0x41 + 10)
     16))
 
 -- a digit of this base
-abbrev pub digitOf : ℕ → ℕ → Bool
-digitOf base c = ltb (digitValue c) base
+abbrev pub digit_of : ℕ → ℕ → Bool
+digit_of base c = ltb (digit_value c) base
 
 -- the number that digits write: each times the base to the power of how many digits stand behind it
 unfoldable pub value : ℕ → Bytes → ℕ
 value base [] = 0
-value base (c ∷ cs) = digitValue c * base ^ length cs + value base cs
+value base (c ∷ cs) = digit_value c * base ^ length cs + value base cs
 
 -- the number that the first n bytes write; none where there are fewer, or one of them is no digit
 unfoldable pub number : ℕ → ℕ → Bytes → Option ℕ
 unfolding all value
-number base n t = cond (leb n (length t) && all (digitOf base) (take n t)) (some (value base (take n t))) none
+number base n t = cond (leb n (length t) && all (digit_of base) (take n t)) (some (value base (take n t))) none
 
 -- ---- escapes
 
@@ -80,12 +80,12 @@ pub record Escaped : Type 0 where
   pub taken : ℕ
 
 -- a number that \x and the octal form may write: not 0, not above 377 octal
-abbrev pub oneByte : ℕ → Bool
-oneByte v = between 1 0xFF v
+abbrev pub one_byte : ℕ → Bool
+one_byte v = between 1 0xFF v
 
 -- a number that \u and \U may write: not 0, not above 10FFFF, none of D800 to DFFF
-abbrev pub codePoint : ℕ → Bool
-codePoint v = between 1 0x10FFFF v && not (between 0xD800 0xDFFF v)
+abbrev pub code_point : ℕ → Bool
+code_point v = between 1 0x10FFFF v && not (between 0xD800 0xDFFF v)
 
 -- The escape of a number: 24 where there is none, 25 where it is not allowed. The form is judged first.
 unfoldable pub numeric : (allowed : ℕ → Bool) (give : ℕ → Bytes) (taken at : ℕ) → Option ℕ → Outcome Escaped
@@ -94,31 +94,31 @@ numeric allowed give taken at (some v) =
     cond (allowed v) (accepted (record { bytes = give v; taken = taken })) (refused 25 at)
 
 -- \xHH and \OOO give one byte
-abbrev pub byteEscape : (taken at : ℕ) → Option ℕ → Outcome Escaped
-byteEscape = numeric oneByte (λ v. v ∷ [])
+abbrev pub byte_escape : (taken at : ℕ) → Option ℕ → Outcome Escaped
+byte_escape = numeric one_byte (λ v. v ∷ [])
 
 -- \uHHHH and \UHHHHHHHH give the UTF-8 of the code point
-abbrev pub pointEscape : (taken at : ℕ) → Option ℕ → Outcome Escaped
-pointEscape = numeric codePoint encoded
+abbrev pub point_escape : (taken at : ℕ) → Option ℕ → Outcome Escaped
+point_escape = numeric code_point encoded
 
 -- The forms with digits, by the byte behind the backslash: x, u or U and its digits; what is none of them has to be
 -- three octal digits.
-unfoldable pub digitEscape : ℕ → ℕ → Bytes → Outcome Escaped
+unfoldable pub digit_escape : ℕ → ℕ → Bytes → Outcome Escaped
 unfolding number numeric encoded
-digitEscape at c t =
-    cond (eqb c (code "x")) (byteEscape (1 + 2) at (number 16 2 t))
-    (cond (eqb c (code "u")) (pointEscape (1 + 4) at (number 16 4 t))
-    (cond (eqb c (code "U")) (pointEscape (1 + 8) at (number 16 8 t))
-    (byteEscape 3 at (number 8 3 (c ∷ t)))))
+digit_escape at c t =
+    cond (eqb c (code "x")) (byte_escape (1 + 2) at (number 16 2 t))
+    (cond (eqb c (code "u")) (point_escape (1 + 4) at (number 16 4 t))
+    (cond (eqb c (code "U")) (point_escape (1 + 8) at (number 16 8 t))
+    (byte_escape 3 at (number 8 3 (c ∷ t)))))
 
 -- a letter where it is one, and a form with digits otherwise
-unfoldable pub letterEscape : Option ℕ → Outcome Escaped → Outcome Escaped
-letterEscape none other = other
-letterEscape (some b) other = accepted (record { bytes = b ∷ []; taken = 1 })
+unfoldable pub letter_escape : Option ℕ → Outcome Escaped → Outcome Escaped
+letter_escape none other = other
+letter_escape (some b) other = accepted (record { bytes = b ∷ []; taken = 1 })
 
 -- The escape whose backslash stands at an offset, by the text behind the backslash. The place of a refusal is that
 -- offset.
 unfoldable pub escape : ℕ → Bytes → Outcome Escaped
-unfolding byte_of digitEscape letterEscape
+unfolding byte_of digit_escape letter_escape
 escape at [] = refused 24 at
-escape at (c ∷ t) = letterEscape (byte_of letters c) (digitEscape at c t)
+escape at (c ∷ t) = letter_escape (byte_of letters c) (digit_escape at c t)

@@ -49,24 +49,24 @@ SoundItem (bare es) = (0 < length es) × All BareElement es
 SoundItem (quoted q es) = (quote q ≡ true) × All (QuotedElement q) es
 
 -- elements one after another, in the text
-abbrev pub allSpelt : List Element → Bytes
-allSpelt [] = []
-allSpelt (e ∷ es) = spelt e ++ allSpelt es
+abbrev pub all_spelt : List Element → Bytes
+all_spelt [] = []
+all_spelt (e ∷ es) = spelt e ++ all_spelt es
 
 -- and in the item
-abbrev pub allMeant : List Element → Bytes
-allMeant [] = []
-allMeant (e ∷ es) = meant e ++ allMeant es
+abbrev pub all_meant : List Element → Bytes
+all_meant [] = []
+all_meant (e ∷ es) = meant e ++ all_meant es
 
 -- an item's bytes in the text, with its quotes
-abbrev pub itemSpelt : Spelling → Bytes
-itemSpelt (bare es) = allSpelt es
-itemSpelt (quoted q es) = q ∷ allSpelt es ++ q ∷ []
+abbrev pub item_spelt : Spelling → Bytes
+item_spelt (bare es) = all_spelt es
+item_spelt (quoted q es) = q ∷ all_spelt es ++ q ∷ []
 
 -- the item
-abbrev pub itemMeant : Spelling → Bytes
-itemMeant (bare es) = allMeant es
-itemMeant (quoted q es) = allMeant es
+abbrev pub item_meant : Spelling → Bytes
+item_meant (bare es) = all_meant es
+item_meant (quoted q es) = all_meant es
 
 -- an item and the blanks behind it
 pub record Spaced : Type 0 where
@@ -87,12 +87,12 @@ Parted (s ∷ t ∷ ss) = (0 < length s.gap) × Parted (t ∷ ss)
 -- the text of items
 abbrev pub text_of : List Spaced → Bytes
 text_of [] = []
-text_of (s ∷ ss) = itemSpelt s.item ++ s.gap ++ text_of ss
+text_of (s ∷ ss) = item_spelt s.item ++ s.gap ++ text_of ss
 
 -- the items
-abbrev pub itemsMeant : List Spaced → List Bytes
-itemsMeant [] = []
-itemsMeant (s ∷ ss) = itemMeant s.item ∷ itemsMeant ss
+abbrev pub items_meant : List Spaced → List Bytes
+items_meant [] = []
+items_meant (s ∷ ss) = item_meant s.item ∷ items_meant ss
 
 -- a text made so: blanks, then items with blanks between them; at most 256 items and 4,096 bytes, and no byte
 -- that is forbidden
@@ -100,10 +100,10 @@ pub record Spelled (t : Bytes) (xs : List Bytes) : Type 0 where
   pub before : Bytes
   pub list : List Spaced
   pub text : t ≡ before ++ text_of list
-  pub before-blank : all blank before ≡ true
+  pub before_blank : all blank before ≡ true
   pub sound : All SoundSpaced list
   pub parted : Parted list
-  pub items : xs ≡ itemsMeant list
+  pub items : xs ≡ items_meant list
   pub few : length list ≤ 256
   pub short : length t ≤ 4096
   pub allowed : all (λ b. not (forbidden b)) t ≡ true

@@ -23,9 +23,9 @@ offset_of (plain at b) = at
 offset_of (escaped at e) = at
 
 -- a blank that stands for itself; an escape is never one
-abbrev pub blankPiece : Piece → Bool
-blankPiece (plain at b) = blank b
-blankPiece (escaped at e) = false
+abbrev pub blank_piece : Piece → Bool
+blank_piece (plain at b) = blank b
+blank_piece (escaped at e) = false
 
 -- the pieces behind an escape, by how many bytes it takes; none are read behind a refused one
 unfoldable pub behind : Outcome Escaped → (ℕ → List Piece) → List Piece
@@ -33,17 +33,17 @@ behind (accepted e) rest = rest e.taken
 behind (refused n p) rest = []
 
 -- The pieces of a text whose first byte is at an offset. Its first k bytes belong to the escape before them.
-unfoldable pub piecesFrom : (k offset : ℕ) → Bytes → List Piece
+unfoldable pub pieces_from : (k offset : ℕ) → Bytes → List Piece
 unfolding escape behind
-piecesFrom zero at [] = []
-piecesFrom (suc k) at [] = []
-piecesFrom (suc k) at (b ∷ t) = piecesFrom k (suc at) t
-piecesFrom zero at (b ∷ t) =
+pieces_from zero at [] = []
+pieces_from (suc k) at [] = []
+pieces_from (suc k) at (b ∷ t) = pieces_from k (suc at) t
+pieces_from zero at (b ∷ t) =
     cond (backslash b)
-    (escaped at (escape at t) ∷ behind (escape at t) (λ k. piecesFrom k (suc at) t))
-    (plain at b ∷ piecesFrom zero (suc at) t)
+    (escaped at (escape at t) ∷ behind (escape at t) (λ k. pieces_from k (suc at) t))
+    (plain at b ∷ pieces_from zero (suc at) t)
 
 -- the pieces of a whole text
 unfoldable pub pieces : Bytes → List Piece
-unfolding piecesFrom
-pieces t = piecesFrom 0 0 t
+unfolding pieces_from
+pieces t = pieces_from 0 0 t

@@ -4,8 +4,8 @@ use Rattle.lines.specs.Bytes.{Bytes}
 use Rattle.lines.specs.Text.{bytes}
 use Rattle.lines.specs.Answers.{Outcome, accepted, refused}
 use Rattle.lines.specs.Laws.{All}
-use Rattle.items.specs.Split.{splitOf}
-use Rattle.items.specs.Write.{writeIn}
+use Rattle.items.specs.Split.{split_of}
+use Rattle.items.specs.Write.{write_in}
 
 -- a text to split, and its items or the refusal
 pub record SplitReading : Type 0 where
@@ -14,8 +14,8 @@ pub record SplitReading : Type 0 where
 
 -- no item; a control byte; an open quote; a fault before the end; a closing quote and a backslash; a quote behind an
 -- escape; digits that are missing, bytes that are no digits, and numbers that are not allowed; what is data
-abbrev pub splitReadings : List SplitReading
-splitReadings =
+abbrev pub split_readings : List SplitReading
+split_readings =
     record { text = bytes ""; outcome = accepted [] } ∷
     record { text = bytes " \t "; outcome = accepted [] } ∷
     record { text = bytes "a\nb"; outcome = refused 21 1 } ∷
@@ -40,8 +40,8 @@ pub record WriteReading : Type 0 where
 
 -- no item; an empty item; bytes past the last end, a NUL among them; ends that fall or pass the bytes; a NUL in an
 -- item; a byte with a letter, one without, and one above 7F
-abbrev pub writeReadings : List WriteReading
-writeReadings =
+abbrev pub write_readings : List WriteReading
+write_readings =
     record { given = bytes "abc"; ends = []; outcome = accepted (bytes "") } ∷
     record { given = bytes "a b"; ends = 3 ∷ 3 ∷ []; outcome = accepted (bytes "\"a b\" \"\"") } ∷
     record { given = 0x61 ∷ 0x00 ∷ []; ends = 1 ∷ []; outcome = accepted (bytes "a") } ∷
@@ -53,12 +53,12 @@ writeReadings =
 
 -- a case holds
 abbrev pub SplitReadingHolds : SplitReading → Type 0
-SplitReadingHolds r = splitOf r.text ≡ r.outcome
+SplitReadingHolds r = split_of r.text ≡ r.outcome
 
 -- with a buffer of 4,096 bytes
 abbrev pub WriteReadingHolds : WriteReading → Type 0
-WriteReadingHolds r = writeIn 4096 r.given r.ends ≡ r.outcome
+WriteReadingHolds r = write_in 4096 r.given r.ends ≡ r.outcome
 
 -- all of them do
 abbrev pub ReadingsHold : Type 0
-ReadingsHold = All SplitReadingHolds splitReadings × All WriteReadingHolds writeReadings
+ReadingsHold = All SplitReadingHolds split_readings × All WriteReadingHolds write_readings

@@ -3,7 +3,7 @@ use Rattle.std.specs.Prelude.{ℕ, zero, suc, ◌+◌, Bool, not, ◌&&◌, ◌|
 use Rattle.lines.specs.Bytes.{Bytes, between, blank, any}
 use Rattle.lines.specs.Answers.{Outcome, accepted, refused}
 use Rattle.items.specs.Escapes.{Escaped}
-use Rattle.items.specs.Pieces.{Piece, plain, escaped, offset_of, blankPiece, quote, pieces}
+use Rattle.items.specs.Pieces.{Piece, plain, escaped, offset_of, blank_piece, quote, pieces}
 
 -- ---- one item
 
@@ -14,52 +14,52 @@ pub data Step : Type 0 where
   refusal : (number place : ℕ) → Step
 
 -- bytes that stand before the rest of an item
-unfoldable pub withBytes : Bytes → Step → Step
-withBytes bs (item cs ps) = item (bs ++ cs) ps
-withBytes bs end = end
-withBytes bs (refusal n p) = refusal n p
+unfoldable pub with_bytes : Bytes → Step → Step
+with_bytes bs (item cs ps) = item (bs ++ cs) ps
+with_bytes bs end = end
+with_bytes bs (refusal n p) = refusal n p
 
 -- an escape before the rest of an item: its bytes, or its refusal
-unfoldable pub withEscape : Outcome Escaped → Step → Step
-unfolding withBytes
-withEscape (accepted e) s = withBytes e.bytes s
-withEscape (refused n p) s = refusal n p
+unfoldable pub with_escape : Outcome Escaped → Step → Step
+unfolding with_bytes
+with_escape (accepted e) s = with_bytes e.bytes s
+with_escape (refused n p) s = refusal n p
 
 -- The rest of a bare item: a blank or the end parts it from what follows. A quote in it is 22.
-unfoldable pub bareItem : List Piece → Step
-unfolding withBytes withEscape
-bareItem [] = item [] []
-bareItem (plain at b ∷ ps) =
+unfoldable pub bare_item : List Piece → Step
+unfolding with_bytes with_escape
+bare_item [] = item [] []
+bare_item (plain at b ∷ ps) =
     cond (blank b) (item [] (plain at b ∷ ps))
     (cond (quote b) (refusal 22 at)
-    (withBytes (b ∷ []) (bareItem ps)))
-bareItem (escaped at e ∷ ps) = withEscape e (bareItem ps)
+    (with_bytes (b ∷ []) (bare_item ps)))
+bare_item (escaped at e ∷ ps) = with_escape e (bare_item ps)
 
 -- behind a closing quote: a blank or the end has to follow, and anything else is 22
-unfoldable pub closedItem : List Piece → Step
-closedItem [] = item [] []
-closedItem (p ∷ ps) = cond (blankPiece p) (item [] (p ∷ ps)) (refusal 22 (offset_of p))
+unfoldable pub closed_item : List Piece → Step
+closed_item [] = item [] []
+closed_item (p ∷ ps) = cond (blank_piece p) (item [] (p ∷ ps)) (refusal 22 (offset_of p))
 
 -- The rest of an item in quotes: the same quote closes it, and the other kind is data. Where the text ends
 -- first, it is 23 at the opening quote.
-unfoldable pub quotedItem : (kind opening : ℕ) → List Piece → Step
-unfolding withBytes withEscape closedItem
-quotedItem q o [] = refusal 23 o
-quotedItem q o (plain at b ∷ ps) = cond (eqb b q) (closedItem ps) (withBytes (b ∷ []) (quotedItem q o ps))
-quotedItem q o (escaped at e ∷ ps) = withEscape e (quotedItem q o ps)
+unfoldable pub quoted_item : (kind opening : ℕ) → List Piece → Step
+unfolding with_bytes with_escape closed_item
+quoted_item q o [] = refusal 23 o
+quoted_item q o (plain at b ∷ ps) = cond (eqb b q) (closed_item ps) (with_bytes (b ∷ []) (quoted_item q o ps))
+quoted_item q o (escaped at e ∷ ps) = with_escape e (quoted_item q o ps)
 
 -- the item that begins with a piece; a quote opens only here
 unfoldable pub item_at : Piece → List Piece → Step
-unfolding bareItem quotedItem
-item_at (plain at b) ps = cond (quote b) (quotedItem b at ps) (bareItem (plain at b ∷ ps))
-item_at (escaped at e) ps = bareItem (escaped at e ∷ ps)
+unfolding bare_item quoted_item
+item_at (plain at b) ps = cond (quote b) (quoted_item b at ps) (bare_item (plain at b ∷ ps))
+item_at (escaped at e) ps = bare_item (escaped at e ∷ ps)
 
 -- ---- a reading step
 
 -- without the blanks at the start
-unfoldable pub pastBlanks : List Piece → List Piece
-pastBlanks [] = []
-pastBlanks (p ∷ ps) = cond (blankPiece p) (pastBlanks ps) (p ∷ ps)
+unfoldable pub past_blanks : List Piece → List Piece
+past_blanks [] = []
+past_blanks (p ∷ ps) = cond (blank_piece p) (past_blanks ps) (p ∷ ps)
 
 -- at the first piece that is no blank: the end, or an item; 26 where no more may come
 unfoldable pub begun : ℕ → List Piece → Step
@@ -70,19 +70,19 @@ begun (suc n) (p ∷ ps) = item_at p ps
 
 -- a reading step, where n more items may come
 unfoldable pub step : ℕ → List Piece → Step
-unfolding pastBlanks begun
-step n ps = begun n (pastBlanks ps)
+unfolding past_blanks begun
+step n ps = begun n (past_blanks ps)
 
 -- ---- all items
 
 -- one item before the others
-abbrev pub withItem : Bytes → Outcome (List Bytes) → Outcome (List Bytes)
-withItem x (accepted xs) = accepted (x ∷ xs)
-withItem x (refused n p) = refused n p
+abbrev pub with_item : Bytes → Outcome (List Bytes) → Outcome (List Bytes)
+with_item x (accepted xs) = accepted (x ∷ xs)
+with_item x (refused n p) = refused n p
 
 -- after a step: the item and what the rest gives, no more items, or the refusal
 unfoldable pub collected : Step → (List Piece → Outcome (List Bytes)) → Outcome (List Bytes)
-collected (item x ps) rest = withItem x (rest ps)
+collected (item x ps) rest = with_item x (rest ps)
 collected end rest = accepted []
 collected (refusal n p) rest = refused n p
 
@@ -99,16 +99,16 @@ abbrev pub forbidden : ℕ → Bool
 forbidden b = (between 0x00 0x1F b && not (eqb b 0x09)) || eqb b 0x7F
 
 -- the offset of the first such byte, or the length where there is none
-unfoldable pub firstForbidden : Bytes → ℕ
-firstForbidden [] = 0
-firstForbidden (b ∷ bs) = cond (forbidden b) 0 (suc (firstForbidden bs))
+unfoldable pub first_forbidden : Bytes → ℕ
+first_forbidden [] = 0
+first_forbidden (b ∷ bs) = cond (forbidden b) 0 (suc (first_forbidden bs))
 
 -- 20, 21, then the items, at most 256 of them
-unfoldable pub splitOf : Bytes → Outcome (List Bytes)
-unfolding any firstForbidden pieces items_of
-splitOf t =
+unfoldable pub split_of : Bytes → Outcome (List Bytes)
+unfolding any first_forbidden pieces items_of
+split_of t =
     cond (ltb 4096 (length t)) (refused 20 0)
-    (cond (any forbidden t) (refused 21 (firstForbidden t))
+    (cond (any forbidden t) (refused 21 (first_forbidden t))
     (items_of 256 (pieces t)))
 
 -- ---- the buffers (the rules' rooms)
@@ -119,11 +119,11 @@ bytes_of [] = []
 bytes_of (x ∷ xs) = x ++ bytes_of xs
 
 -- the end of each item, where the first begins at an offset
-unfoldable pub endsFrom : ℕ → List Bytes → List ℕ
-endsFrom at [] = []
-endsFrom at (x ∷ xs) = (at + length x) ∷ endsFrom (at + length x) xs
+unfoldable pub ends_from : ℕ → List Bytes → List ℕ
+ends_from at [] = []
+ends_from at (x ∷ xs) = (at + length x) ∷ ends_from (at + length x) xs
 
 -- 1 before everything: the buffers have at least 4,096 bytes and 256 numbers
-unfoldable pub splitIn : (bytesSize endsSize : ℕ) → Bytes → Outcome (List Bytes)
-unfolding splitOf
-splitIn bytesSize endsSize t = cond (ltb bytesSize 4096 || ltb endsSize 256) (refused 1 0) (splitOf t)
+unfoldable pub split_in : (bytesSize endsSize : ℕ) → Bytes → Outcome (List Bytes)
+unfolding split_of
+split_in bytesSize endsSize t = cond (ltb bytesSize 4096 || ltb endsSize 256) (refused 1 0) (split_of t)

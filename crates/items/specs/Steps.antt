@@ -5,11 +5,11 @@ use Rattle.lines.specs.Bytes.{Bytes, blank}
 use Rattle.lines.specs.Answers.{Outcome, accepted}
 use Rattle.lines.specs.Buffers.{put, filled}
 use Rattle.items.specs.Escapes.{Escaped}
-use Rattle.items.specs.Pieces.{piecesFrom}
+use Rattle.items.specs.Pieces.{pieces_from}
 use Rattle.items.specs.Pieces as pieces
-use Rattle.items.specs.Split.{item, end, refusal, withBytes, bareItem, quotedItem, closedItem, pastBlanks, bytes_of, endsFrom}
+use Rattle.items.specs.Split.{item, end, refusal, with_bytes, bare_item, quoted_item, closed_item, past_blanks, bytes_of, ends_from}
 use Rattle.items.specs.Split as split
-use Rattle.items.specs.Answers.{number_of, place_of, errorMeans}
+use Rattle.items.specs.Answers.{number_of, place_of, error_means}
 use Rattle.items.specs.declared.error.Error.{Error}
 use Rattle.items.specs.declared.escapes.Number.{Number}
 use Rattle.items.specs.declared.escapes.Number.TheVariants.{Value, Malformed}
@@ -28,22 +28,22 @@ use Rattle.items.specs.declared.splitter.SplitAnswer.TheVariants.{Accepted as Sp
 -- ---- escapes
 
 -- a byte or a letter; 0 stands for none
-abbrev pub letterMeans : ℕ → Option ℕ
-letterMeans b = cond (eqb b 0) none (some b)
+abbrev pub letter_means : ℕ → Option ℕ
+letter_means b = cond (eqb b 0) none (some b)
 
 -- the number that digits write
-abbrev pub numberMeans : Number → Option ℕ
-numberMeans (Value v) = some v
-numberMeans Malformed = none
+abbrev pub number_means : Number → Option ℕ
+number_means (Value v) = some v
+number_means Malformed = none
 
 -- up to four bytes
-abbrev pub fewBytes : Few → Bytes
-fewBytes f = take f.count (f.b0 ∷ f.b1 ∷ f.b2 ∷ f.b3 ∷ [])
+abbrev pub few_bytes : Few → Bytes
+few_bytes f = take f.count (f.b0 ∷ f.b1 ∷ f.b2 ∷ f.b3 ∷ [])
 
 -- an escape is its bytes or a refusal
-abbrev pub escapeMeans : Escape → Outcome Escaped
-escapeMeans (EscapeBytes f n) = accepted (record { bytes = fewBytes f; taken = n })
-escapeMeans (EscapeRefused e) = errorMeans e
+abbrev pub escape_means : Escape → Outcome Escaped
+escape_means (EscapeBytes f n) = accepted (record { bytes = few_bytes f; taken = n })
+escape_means (EscapeRefused e) = error_means e
 
 -- at most four bytes
 abbrev pub AtMostFour : Escape → Type 0
@@ -52,7 +52,7 @@ AtMostFour (EscapeRefused e) = Unit {0}
 
 -- an answer for the escape that is meant
 pub record EscapeIs (o : Outcome Escaped) (r : Escape) : Type 0 where
-  pub means : escapeMeans r ≡ o
+  pub means : escape_means r ≡ o
   pub short : AtMostFour r
 
 -- the error of a refused escape
@@ -63,25 +63,25 @@ ErrorOf (EscapeRefused d) e = e ≡ d
 -- ---- pieces
 
 -- the pieces of a text from an offset on
-unfoldable pub piecesAt : Bytes → ℕ → List pieces.Piece
-piecesAt t at = piecesFrom 0 at (drop at t)
+unfoldable pub pieces_at : Bytes → ℕ → List pieces.Piece
+pieces_at t at = pieces_from 0 at (drop at t)
 
 -- the rest of an item, bare or in quotes
 unfoldable pub rest_of : Mode → List pieces.Piece → split.Step
-rest_of Bare ps = bareItem ps
-rest_of (Quoted q o) ps = quotedItem q o ps
+rest_of Bare ps = bare_item ps
+rest_of (Quoted q o) ps = quoted_item q o ps
 
 -- Bytes of the item at an offset, and where its next piece stands. They fit where the bytes of the text did.
 pub record BytesAt (m : Mode) (t : Bytes) (at : ℕ) (f : Few) (next : ℕ) : Type 0 where
   pub short : f.count ≤ 4
-  pub step : rest_of m (piecesAt t at) ≡ withBytes (fewBytes f) (rest_of m (piecesAt t next))
+  pub step : rest_of m (pieces_at t at) ≡ with_bytes (few_bytes f) (rest_of m (pieces_at t next))
   pub fits : at + f.count ≤ next
   pub later : at < next
   pub inside : next ≤ length t
 
 -- the item ends before an offset
 pub record EndsAt (m : Mode) (t : Bytes) (at next : ℕ) : Type 0 where
-  pub step : rest_of m (piecesAt t at) ≡ item [] (piecesAt t next)
+  pub step : rest_of m (pieces_at t at) ≡ item [] (pieces_at t next)
   pub later : at ≤ next
   pub inside : next ≤ length t
 
@@ -89,7 +89,7 @@ pub record EndsAt (m : Mode) (t : Bytes) (at next : ℕ) : Type 0 where
 abbrev pub PieceAt : Mode → Bytes → ℕ → Piece → Type 0
 PieceAt m t at (PieceBytes f next) = BytesAt m t at f next
 PieceAt m t at (PieceEnd next) = EndsAt m t at next
-PieceAt m t at (PieceRefused e) = rest_of m (piecesAt t at) ≡ refusal (number_of e) (place_of e)
+PieceAt m t at (PieceRefused e) = rest_of m (pieces_at t at) ≡ refusal (number_of e) (place_of e)
 
 -- the same in and out of quotes: an escape
 abbrev pub EscapePiece : Bytes → ℕ → Piece → Type 0
@@ -98,8 +98,8 @@ EscapePiece t at r = (m : Mode) → PieceAt m t at r
 -- behind a closing quote, which stands before an offset
 abbrev pub ClosedAt : Bytes → ℕ → Piece → Type 0
 ClosedAt t at (PieceBytes f next) = ⊥
-ClosedAt t at (PieceEnd next) = (closedItem (piecesAt t at) ≡ item [] (piecesAt t at)) × (next ≡ at)
-ClosedAt t at (PieceRefused e) = closedItem (piecesAt t at) ≡ refusal (number_of e) (place_of e)
+ClosedAt t at (PieceEnd next) = (closed_item (pieces_at t at) ≡ item [] (pieces_at t at)) × (next ≡ at)
+ClosedAt t at (PieceRefused e) = closed_item (pieces_at t at) ≡ refusal (number_of e) (place_of e)
 
 -- ---- steps
 
@@ -107,13 +107,13 @@ ClosedAt t at (PieceRefused e) = closedItem (piecesAt t at) ≡ refusal (number_
 pub record BlanksPassed (t : Bytes) (at r : ℕ) : Type 0 where
   pub later : at ≤ r
   pub inside : r ≤ length t
-  pub same : pastBlanks (piecesAt t at) ≡ pastBlanks (piecesAt t r)
+  pub same : past_blanks (pieces_at t at) ≡ past_blanks (pieces_at t r)
   pub stands : r < length t → blank (get_or t r 0) ≡ false
 
 -- An item was read: its bytes stand in the buffer from index n on, up to index m, and reading goes on at an offset.
 pub record ItemRead (t : Bytes) (s : split.Step) (n : ℕ) (before after : Bytes) (next m : ℕ) : Type 0 where
   pub bytes : Bytes
-  pub step : s ≡ item bytes (piecesAt t next)
+  pub step : s ≡ item bytes (pieces_at t next)
   pub buffer : after ≡ put before n bytes
   pub size : m ≡ n + length bytes
   pub fits : m ≤ next
@@ -129,14 +129,14 @@ StepTaken t s n before after (Refused e) = s ≡ refusal (number_of e) (place_of
 pub record AllRead (o : Outcome (List Bytes)) (count size : ℕ) (bytes bytes' : Bytes) (ends ends' : List ℕ) : Type 0 where
   pub items : List Bytes
   pub outcome : o ≡ accepted items
-  pub count-is : count ≡ length items
+  pub count_is : count ≡ length items
   pub size_is : size ≡ length (bytes_of items)
-  pub bytes-are : bytes' ≡ filled (bytes_of items) bytes
-  pub ends-are : ends' ≡ filled (endsFrom 0 items) ends
+  pub bytes_are : bytes' ≡ filled (bytes_of items) bytes
+  pub ends_are : ends' ≡ filled (ends_from 0 items) ends
   pub few : count ≤ 256
   pub fits : size ≤ 4096
 
 -- what reading all items gives
 abbrev pub ReadAll : Outcome (List Bytes) → (bytes bytes' : Bytes) (ends ends' : List ℕ) → SplitAnswer → Type 0
 ReadAll o bytes bytes' ends ends' (SplitAccepted count size) = AllRead o count size bytes bytes' ends ends'
-ReadAll o bytes bytes' ends ends' (SplitRefused e) = o ≡ errorMeans e
+ReadAll o bytes bytes' ends ends' (SplitRefused e) = o ≡ error_means e

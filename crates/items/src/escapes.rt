@@ -1,8 +1,8 @@
 // Escapes: a backslash and what stands behind it.
 ghost use Rattle.std.specs.Prelude.{◌≡◌, ◌+◌, ◌≤◌, ◌<◌, [], ◌∷◌, length, drop, get_or};
 ghost use Rattle.lines.specs.Utf8.{encoded};
-ghost use Rattle.items.specs.Escapes.{letters, byte_of, digitValue, number, codePoint, byteEscape, pointEscape, digitEscape, escape};
-ghost use Rattle.items.specs.Steps.{letterMeans, numberMeans, fewBytes, EscapeIs, ErrorOf};
+ghost use Rattle.items.specs.Escapes.{letters, byte_of, digit_value, number, code_point, byte_escape, point_escape, digit_escape, escape};
+ghost use Rattle.items.specs.Steps.{letter_means, number_means, few_bytes, EscapeIs, ErrorOf};
 
 use crate::error::Error;
 use lines::is_between;
@@ -35,7 +35,7 @@ pub(crate) enum Escape {
 
 // The byte that a letter behind a backslash gives; 0 where it gives none.
 fn letter_byte(c: u8) -> u8
-    ensures { letterMeans result ≡ byte_of letters c }
+    ensures { letter_means result ≡ byte_of letters c }
 {
     match c {
         b'a' => 0x07,
@@ -55,7 +55,7 @@ fn letter_byte(c: u8) -> u8
 
 // What a digit stands for, hex digits in either case; 16 for any other byte.
 fn digit_value(c: u8) -> u64
-    ensures { result ≡ digitValue c }
+    ensures { result ≡ digit_value c }
 {
     if is_between(b'0', b'9', c) {
         return (c - b'0') as u64;
@@ -72,7 +72,7 @@ fn digit_value(c: u8) -> u64
 // The number that the first `count` bytes of a text write.
 fn read_number(text: &[u8], base: u64, count: usize) -> Number
     requires { (base ≤ 16) × (count ≤ 8) }
-    ensures { numberMeans result ≡ number base count text.now }
+    ensures { number_means result ≡ number base count text.now }
 {
     if text.len() < count {
         return Number::Malformed;
@@ -93,7 +93,7 @@ fn read_number(text: &[u8], base: u64, count: usize) -> Number
 // ---- bytes
 
 pub(crate) fn one(b: u8) -> Few
-    ensures { (fewBytes result ≡ b ∷ []) × (result.count ≡ 1) }
+    ensures { (few_bytes result ≡ b ∷ []) × (result.count ≡ 1) }
 {
     Few {
         b0: b,
@@ -107,7 +107,7 @@ pub(crate) fn one(b: u8) -> Few
 // The UTF-8 of a code point.
 fn encode(v: u64) -> Few
     requires { v ≤ 0x10FFFF }
-    ensures { (fewBytes result ≡ encoded v) × (result.count ≤ 4) }
+    ensures { (few_bytes result ≡ encoded v) × (result.count ≤ 4) }
 {
     if v <= 0x7F {
         return one(v as u8);
@@ -143,7 +143,7 @@ fn encode(v: u64) -> Few
 
 // The escape of a number that gives one byte.
 fn byte_escape(n: Number, at: usize, taken: usize) -> Escape
-    ensures { EscapeIs (byteEscape taken at (numberMeans n)) result }
+    ensures { EscapeIs (byte_escape taken at (number_means n)) result }
 {
     let Number::Value(v) = n else {
         return Escape::Refused(Error::EscapeForm(at));
@@ -162,7 +162,7 @@ fn byte_escape(n: Number, at: usize, taken: usize) -> Escape
 
 // A code point that may be written: not 0, not above 10FFFF, no surrogate.
 fn is_code_point(v: u64) -> bool
-    ensures { result ≡ codePoint v }
+    ensures { result ≡ code_point v }
 {
     if v < 1 {
         return false;
@@ -181,7 +181,7 @@ fn is_code_point(v: u64) -> bool
 
 // The escape of a number that gives the UTF-8 of a code point.
 fn point_escape(n: Number, at: usize, taken: usize) -> Escape
-    ensures { EscapeIs (pointEscape taken at (numberMeans n)) result }
+    ensures { EscapeIs (point_escape taken at (number_means n)) result }
 {
     let Number::Value(v) = n else {
         return Escape::Refused(Error::EscapeForm(at));
@@ -198,7 +198,7 @@ fn point_escape(n: Number, at: usize, taken: usize) -> Escape
 // The forms with digits, by the byte at the start of a text, which stands behind the backslash.
 fn digit_escape(text: &[u8], at: usize) -> Escape
     requires { 0 < length text.now }
-    ensures { EscapeIs (digitEscape at (get_or text.now 0 0) (drop 1 text.now)) result }
+    ensures { EscapeIs (digit_escape at (get_or text.now 0 0) (drop 1 text.now)) result }
 {
     let c = text[0];
     let rest = &text[1..];

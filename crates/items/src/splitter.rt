@@ -2,9 +2,9 @@
 ghost use Rattle.std.specs.Prelude.{◌≡◌, ◌+◌, ◌≤◌, ◌<◌, length};
 ghost use Rattle.lines.specs.Buffers.{put};
 ghost use Rattle.items.specs.Pieces.{pieces};
-ghost use Rattle.items.specs.Split.{forbidden, firstForbidden, step, items_of};
+ghost use Rattle.items.specs.Split.{forbidden, first_forbidden, step, items_of};
 ghost use Rattle.items.specs.Answers.{SplitLeaves, Splits};
-ghost use Rattle.items.specs.Steps.{fewBytes, piecesAt, rest_of, BlanksPassed, StepTaken, ReadAll};
+ghost use Rattle.items.specs.Steps.{few_bytes, pieces_at, rest_of, BlanksPassed, StepTaken, ReadAll};
 
 use crate::error::Error;
 use crate::escapes::Few;
@@ -48,7 +48,7 @@ fn is_forbidden(b: u8) -> bool
 
 // The offset of the first such byte, or the length.
 fn first_forbidden(text: &[u8]) -> usize
-    ensures { result ≡ firstForbidden text.now }
+    ensures { result ≡ first_forbidden text.now }
 {
     let mut i = 0;
     while i < text.len() {
@@ -65,7 +65,7 @@ fn first_forbidden(text: &[u8]) -> usize
 // Puts up to four bytes into a buffer from an index on.
 fn store(buffer: &mut [u8], at: usize, bytes: Few)
     requires { (bytes.count ≤ 4) × (at + bytes.count ≤ length buffer.old) }
-    ensures { buffer.new ≡ put buffer.old at (fewBytes bytes) }
+    ensures { buffer.new ≡ put buffer.old at (few_bytes bytes) }
 {
     let count = bytes.count;
     if count < 1 {
@@ -89,7 +89,7 @@ fn store(buffer: &mut [u8], at: usize, bytes: Few)
 // The rest of an item, into a buffer from an index on.
 fn read_item(text: &[u8], mode: Mode, start: usize, buffer: &mut [u8], used: usize) -> Step
     requires { (length text.now ≤ length buffer.old) × (start ≤ length text.now) × (used ≤ start) }
-    ensures { StepTaken text.now (rest_of mode (piecesAt text.now start)) used buffer.old buffer.new result }
+    ensures { StepTaken text.now (rest_of mode (pieces_at text.now start)) used buffer.old buffer.new result }
 {
     let mut at = start;
     let mut size = used;
@@ -127,7 +127,7 @@ fn past_blanks(text: &[u8], start: usize) -> usize
 // The next item, where `more` items may still come.
 fn next_item(text: &[u8], more: usize, start: usize, buffer: &mut [u8], used: usize) -> Step
     requires { (length text.now ≤ length buffer.old) × (start ≤ length text.now) × (used ≤ start) }
-    ensures { StepTaken text.now (step more (piecesAt text.now start)) used buffer.old buffer.new result }
+    ensures { StepTaken text.now (step more (pieces_at text.now start)) used buffer.old buffer.new result }
 {
     let at = past_blanks(text, start);
     if text.len() <= at {

@@ -55,21 +55,21 @@ pub and_assoc : (a b c : Bool) → ((a && b) && c) ≡ (a && (b && c))
 and_assoc true b c = refl
 and_assoc false b c = refl
 
-pub and-true : (a : Bool) → (a && true) ≡ a
-and-true true = refl
-and-true false = refl
+pub and_true : (a : Bool) → (a && true) ≡ a
+and_true true = refl
+and_true false = refl
 
-pub and-false : (a : Bool) → (a && false) ≡ false
-and-false true = refl
-and-false false = refl
+pub and_false : (a : Bool) → (a && false) ≡ false
+and_false true = refl
+and_false false = refl
 
-pub not-true : (a : Bool) → not a ≡ true → a ≡ false
-not-true true e = sym e
-not-true false e = refl
+pub not_true : (a : Bool) → not a ≡ true → a ≡ false
+not_true true e = sym e
+not_true false e = refl
 
 -- a byte that passes differs from one that fails
-pub neq-byte : (p : ℕ → Bool) (c b : ℕ) → p c ≡ false → p b ≡ true → eqb b c ≡ false
-neq-byte p c b no-c yes-b = is_false (eqb b c) (λ e. impossible (sym no-c ∙ ap p (sym (eqb-true b c e)) ∙ yes-b))
+pub neq_byte : (p : ℕ → Bool) (c b : ℕ) → p c ≡ false → p b ≡ true → eqb b c ≡ false
+neq_byte p c b no-c yes-b = is_false (eqb b c) (λ e. impossible (sym no-c ∙ ap p (sym (eqb-true b c e)) ∙ yes-b))
 
 -- ---- all
 
@@ -78,10 +78,10 @@ unfolding all
 all_append p [] b = refl
 all_append p (x ∷ a) b = rw (all_append p a b) (sym (and_assoc (p x) (all p a) (all p b)))
 
-pub all-imp : (p q : ℕ → Bool) → ((b : ℕ) → p b ≡ true → q b ≡ true) → (l : Bytes) → all p l ≡ true → all q l ≡ true
+pub all_imp : (p q : ℕ → Bool) → ((b : ℕ) → p b ≡ true → q b ≡ true) → (l : Bytes) → all p l ≡ true → all q l ≡ true
 unfolding all
-all-imp p q f [] h = refl
-all-imp p q f (b ∷ bs) h = both (q b) (all q bs) (f b (and_left (p b) (all p bs) h)) (all-imp p q f bs (and_right (p b) (all p bs) h))
+all_imp p q f [] h = refl
+all_imp p q f (b ∷ bs) h = both (q b) (all q bs) (f b (and_left (p b) (all p bs) h)) (all_imp p q f bs (and_right (p b) (all p bs) h))
 
 -- some byte passes exactly where not every byte fails
 pub any-all : (p : ℕ → Bool) (l : Bytes) → any p l ≡ not (all (λ b. not (p b)) l)
@@ -91,15 +91,15 @@ any-all p (b ∷ bs) = by_cases (p b) (λ e. rw e) (λ e. rw e (any-all p bs))
 
 -- ---- equal
 
-pub equal-eq : (a b : Bytes) → equal a b ≡ true → a ≡ b
+pub equal_eq : (a b : Bytes) → equal a b ≡ true → a ≡ b
 unfolding equal
-equal-eq [] [] e = refl
-equal-eq [] (c ∷ cs) e = impossible e
-equal-eq (b ∷ bs) [] e = impossible e
-equal-eq (b ∷ bs) (c ∷ cs) e =
-    rw (eqb-true b c (and_left (eqb b c) (equal bs cs) e), equal-eq bs cs (and_right (eqb b c) (equal bs cs) e))
+equal_eq [] [] e = refl
+equal_eq [] (c ∷ cs) e = impossible e
+equal_eq (b ∷ bs) [] e = impossible e
+equal_eq (b ∷ bs) (c ∷ cs) e =
+    rw (eqb-true b c (and_left (eqb b c) (equal bs cs) e), equal_eq bs cs (and_right (eqb b c) (equal bs cs) e))
 
-pub equal-refl : (a : Bytes) → equal a a ≡ true
+pub equal_refl : (a : Bytes) → equal a a ≡ true
 unfolding equal
-equal-refl [] = refl
-equal-refl (b ∷ bs) = both (eqb b b) (equal bs bs) (eq-eqb b b refl) (equal-refl bs)
+equal_refl [] = refl
+equal_refl (b ∷ bs) = both (eqb b b) (equal bs bs) (eq-eqb b b refl) (equal_refl bs)

@@ -22,11 +22,11 @@ module _ {A : Type 0} where
 
   -- ---- nothing put
 
-  pub filled-nil : (d : List A) → filled [] d ≡ d
-  filled-nil d = refl
+  pub filled_nil : (d : List A) → filled [] d ≡ d
+  filled_nil d = refl
 
-  pub put-nil : (d : List A) (n : ℕ) → put d n [] ≡ d
-  put-nil d n = simp (append-nil, add-zero, take-append-drop)
+  pub put_nil : (d : List A) (n : ℕ) → put d n [] ≡ d
+  put_nil d n = simp (append-nil, add-zero, take-append-drop)
 
   -- ---- what was filled, and what was not
 
@@ -37,8 +37,8 @@ module _ {A : Type 0} where
   drop-filled xs d = drop_at xs (drop (length xs) d) (length xs) refl
 
   -- what is filled over is gone
-  pub filled-over : (xs ys d : List A) → length ys ≤ length xs → filled xs (filled ys d) ≡ filled xs d
-  filled-over xs ys d h = ap (λ (l : List A). xs ++ l) (go (length xs) (length xs - length ys) (omega arith))
+  pub filled_over : (xs ys d : List A) → length ys ≤ length xs → filled xs (filled ys d) ≡ filled xs d
+  filled_over xs ys d h = ap (λ (l : List A). xs ++ l) (go (length xs) (length xs - length ys) (omega arith))
     where
       go : (n k : ℕ) → n ≡ length ys + k → drop n (filled ys d) ≡ drop n d
       go n k e = rw (e, drop-append-add ys (drop (length ys) d) k, drop-drop k (length ys) d)
@@ -50,8 +50,8 @@ module _ {A : Type 0} where
   filled_put xs p d =
       rw (take-filled xs d, drop-append-add xs (drop (length xs) d) (length p), drop-drop (length p) (length xs) d, length-append xs p)
 
-  filled-last : (xs d : List A) (a : A) → filled (xs ++ a ∷ []) d ≡ xs ++ a ∷ drop (suc (length xs)) d
-  filled-last xs d a =
+  filled_last : (xs d : List A) (a : A) → filled (xs ++ a ∷ []) d ≡ xs ++ a ∷ drop (suc (length xs)) d
+  filled_last xs d a =
       let e : length xs + 1 ≡ suc (length xs) = omega arith in
       rw (length-append xs (a ∷ []), e, append_assoc)
 
@@ -61,9 +61,9 @@ module _ {A : Type 0} where
       rw (length-append p (a ∷ []), e) (simp append_assoc)
 
   -- an element at the end of what is filled
-  pub filled-snoc : (xs d : List A) (a : A) → length xs < length d → set (filled xs d) (length xs) a ≡ filled (xs ++ a ∷ []) d
-  filled-snoc xs d a h =
-      rw (drop-cons d (length xs) a h) (set_at xs _ _ a (length xs) refl ∙ sym (filled-last xs d a))
+  pub filled_snoc : (xs d : List A) (a : A) → length xs < length d → set (filled xs d) (length xs) a ≡ filled (xs ++ a ∷ []) d
+  filled_snoc xs d a h =
+      rw (drop-cons d (length xs) a h) (set_at xs _ _ a (length xs) refl ∙ sym (filled_last xs d a))
 
   -- the last element of a part that was put
   pub set-put : (d : List A) (n : ℕ) (p : List A) (b a : A) → n ≤ length d
@@ -87,8 +87,8 @@ module _ {A : Type 0} where
   copied d d' p at h e = e ∙ rw (le-leb (at + length p) (length d) h)
 
   -- the front of a buffer that was filled, copied to the front of another
-  pub front-copied : (xs d from to to' : List A) (n : ℕ) → from ≡ filled xs d → n ≡ length xs → n ≤ length to
+  pub front_copied : (xs d from to to' : List A) (n : ℕ) → from ≡ filled xs d → n ≡ length xs → n ≤ length to
       → to' ≡ cond (leb (0 + length (take (n - 0) from)) (length to)) (put to 0 (take (n - 0) from)) to → to' ≡ filled xs to
-  front-copied xs d from to to' n f e h p =
+  front_copied xs d from to to' n f e h p =
       let k : n - 0 ≡ length xs = omega arith in
       p ∙ rw (f, k, take-filled xs d, le-leb (0 + length xs) (length to) (omega arith), zero-add)

@@ -1,32 +1,32 @@
 -- The laws that specs/CommentLaws.antt states, each by the module that proves it.
 use Rattle.lines.specs.CommentLaws.{CommentMade, CommentIsMade, IndentDecidesNothing, LineDecides, BlanksKept, CommentsApart, CommentsNotCounted, IndentKeepsLines, IndentKeepsCheck}
-use Rattle.lines.proofs.Physicals.{comment-line}
-use Rattle.lines.proofs.Comments.{comment-made, comment-is-made, comment-indent, blanks-kept, comments-apart, comments-not-counted}
-use Rattle.lines.proofs.Indents.{indent-keeps-lines, indent-keeps-check}
+use Rattle.lines.proofs.Physicals.{comment_line}
+use Rattle.lines.proofs.Comments.{comment_made, comment_is_made, comment_indent, blanks_kept, comments_apart, comments_not_counted}
+use Rattle.lines.proofs.Indents.{indent_keeps_lines, indent_keeps_check}
 
-pub parts-are-a-comment : CommentMade
-parts-are-a-comment = comment-made
+pub parts_are_a_comment : CommentMade
+parts_are_a_comment = comment_made
 
-pub comments-are-parts : CommentIsMade
-comments-are-parts = comment-is-made
+pub comments_are_parts : CommentIsMade
+comments_are_parts = comment_is_made
 
-pub indent-decides-nothing : IndentDecidesNothing
-indent-decides-nothing = comment-indent
+pub indent_decides_nothing : IndentDecidesNothing
+indent_decides_nothing = comment_indent
 
-pub line-decides : LineDecides
-line-decides = comment-line
+pub line_decides : LineDecides
+line_decides = comment_line
 
-pub blanks-are-kept : BlanksKept
-blanks-are-kept = blanks-kept
+pub blanks_are_kept : BlanksKept
+blanks_are_kept = blanks_kept
 
-pub comments-stand-apart : CommentsApart
-comments-stand-apart = comments-apart
+pub comments_stand_apart : CommentsApart
+comments_stand_apart = comments_apart
 
-pub comments-are-not-counted : CommentsNotCounted
-comments-are-not-counted = comments-not-counted
+pub comments_are_not_counted : CommentsNotCounted
+comments_are_not_counted = comments_not_counted
 
-pub indented-lines-stay : IndentKeepsLines
-indented-lines-stay = indent-keeps-lines
+pub indented_lines_stay : IndentKeepsLines
+indented_lines_stay = indent_keeps_lines
 
-pub indented-check-stays : IndentKeepsCheck
-indented-check-stays = indent-keeps-check
+pub indented_check_stays : IndentKeepsCheck
+indented_check_stays = indent_keeps_check

@@ -21,15 +21,15 @@ below : ℕ → List Row → Bool
 below n [] = true
 below n (row (range low high) rs ∷ qs) = ltb high n && below n qs
 
-headed-past : (ps : List Row) (b low : ℕ) (qs : List Row) → below low ps ≡ true → low ≤ b
+headed_past : (ps : List Row) (b low : ℕ) (qs : List Row) → below low ps ≡ true → low ≤ b
     → headed b (ps ++ qs) ≡ headed b qs
 unfolding headed below
-headed-past [] b low qs h l = refl
-headed-past (row (range lo hi) rs ∷ ps) b low qs h l =
+headed_past [] b low qs h l = refl
+headed_past (row (range lo hi) rs ∷ ps) b low qs h l =
     let k : hi < low = ltb-true hi low (and_left (ltb hi low) (below low ps) h) in
     by_cases (leb lo b)
-    (λ e. rw (e, lt-leb b hi (omega arith)) (headed-past ps b low qs (and_right (ltb hi low) (below low ps) h) l))
-    (λ e. rw e (headed-past ps b low qs (and_right (ltb hi low) (below low ps) h) l))
+    (λ e. rw (e, lt-leb b hi (omega arith)) (headed_past ps b low qs (and_right (ltb hi low) (below low ps) h) l))
+    (λ e. rw e (headed_past ps b low qs (and_right (ltb hi low) (below low ps) h) l))
 
 -- ---- a character, by its row and its bytes
 
@@ -41,22 +41,22 @@ unfolding utf8 well after heads
 in_row k low high rs b bs e p l h w =
     let q : headed b rows ≡ some rs =
     ap (headed b) (sym (take-append-drop k rows) ∙ ap (λ (qs : List Row). take k rows ++ qs) e)
-    ∙ headed-past (take k rows) b low (row (range low high) rs ∷ drop (suc k) rows) p l
+    ∙ headed_past (take k rows) b low (row (range low high) rs ∷ drop (suc k) rows) p l
     ∙ (unfold headed in rw (in_between low high b l h)) in
     rw q w
 
-well-nil : well [] [] ≡ true
+well_nil : well [] [] ≡ true
 unfolding well
-well-nil = refl
+well_nil = refl
 
-next-byte : (low high b : ℕ) (rs : List Range) (bs : Bytes) → low ≤ b → b ≤ high → well rs bs ≡ true
+next_byte : (low high b : ℕ) (rs : List Range) (bs : Bytes) → low ≤ b → b ≤ high → well rs bs ≡ true
     → well (range low high ∷ rs) (b ∷ bs) ≡ true
 unfolding well
-next-byte low high b rs bs l h w = both (between low high b) (well rs bs) (in_between low high b l h) w
+next_byte low high b rs bs l h w = both (between low high b) (well rs bs) (in_between low high b l h) w
 
-tail-byte : (m : ℕ) (rs : List Range) (bs : Bytes) → well rs bs ≡ true
+tail_byte : (m : ℕ) (rs : List Range) (bs : Bytes) → well rs bs ≡ true
     → well (tail ∷ rs) ((0x80 + m % 0x40) ∷ bs) ≡ true
-tail-byte m rs bs w = next-byte 0x80 0xBF (0x80 + m % 0x40) rs bs (omega arith) (omega arith) w
+tail_byte m rs bs w = next_byte 0x80 0xBF (0x80 + m % 0x40) rs bs (omega arith) (omega arith) w
 
 -- ---- code points
 
@@ -67,24 +67,24 @@ no_surrogate : (n : ℕ) → between 0xD800 0xDFFF n ≡ false → n ≤ 0xDFFF 
 no_surrogate n s h =
     split n 0xD7FF (λ l. omega arith) (λ g. impossible (sym s ∙ in_between 0xD800 0xDFFF n (omega arith) h))
 
-three-bytes : (n : ℕ) → 0x7FF < n → n ≤ 0xFFFF → between 0xD800 0xDFFF n ≡ false
+three_bytes : (n : ℕ) → 0x7FF < n → n ≤ 0xFFFF → between 0xD800 0xDFFF n ≡ false
     → utf8 ((0xE0 + n / 0x1000) ∷ (0x80 + n / 0x40 % 0x40) ∷ (0x80 + n % 0x40) ∷ []) ≡ true
 unfolding rows below
-three-bytes n l h s =
+three_bytes n l h s =
     split n 0x0FFF
     (λ c. in_row 2 0xE0 0xE0 _ (0xE0 + n / 0x1000) _ refl refl (omega arith) (omega arith)
-    (next-byte 0xA0 0xBF (0x80 + n / 0x40 % 0x40) _ _ (omega arith) (omega arith) last))
+    (next_byte 0xA0 0xBF (0x80 + n / 0x40 % 0x40) _ _ (omega arith) (omega arith) last))
     (λ c. split n 0xCFFF
     (λ d. in_row 3 0xE1 0xEC _ (0xE0 + n / 0x1000) _ refl refl (omega arith) (omega arith)
-    (tail-byte (n / 0x40) _ _ last))
+    (tail_byte (n / 0x40) _ _ last))
     (λ d. split n 0xDFFF
     (λ e. in_row 4 0xED 0xED _ (0xE0 + n / 0x1000) _ refl refl (omega arith) (omega arith)
-    (next-byte 0x80 0x9F (0x80 + n / 0x40 % 0x40) _ _ (omega arith) (omega (arith, no_surrogate n s e)) last))
+    (next_byte 0x80 0x9F (0x80 + n / 0x40 % 0x40) _ _ (omega arith) (omega (arith, no_surrogate n s e)) last))
     (λ e. in_row 5 0xEE 0xEF _ (0xE0 + n / 0x1000) _ refl refl (omega arith) (omega arith)
-    (tail-byte (n / 0x40) _ _ last))))
+    (tail_byte (n / 0x40) _ _ last))))
   where
     last : well (tail ∷ []) ((0x80 + n % 0x40) ∷ []) ≡ true
-    last = tail-byte n [] [] well-nil
+    last = tail_byte n [] [] well_nil
 
 four_bytes : (n : ℕ) → 0xFFFF < n → n ≤ 0x10FFFF
     → utf8 ((0xF0 + n / 0x40000) ∷ (0x80 + n / 0x1000 % 0x40) ∷ (0x80 + n / 0x40 % 0x40) ∷ (0x80 + n % 0x40) ∷ []) ≡ true
@@ -92,24 +92,24 @@ unfolding rows below
 four_bytes n l h =
     split n 0x3FFFF
     (λ c. in_row 6 0xF0 0xF0 _ (0xF0 + n / 0x40000) _ refl refl (omega arith) (omega arith)
-    (next-byte 0x90 0xBF (0x80 + n / 0x1000 % 0x40) _ _ (omega arith) (omega arith) last))
+    (next_byte 0x90 0xBF (0x80 + n / 0x1000 % 0x40) _ _ (omega arith) (omega arith) last))
     (λ c. split n 0xFFFFF
     (λ d. in_row 7 0xF1 0xF3 _ (0xF0 + n / 0x40000) _ refl refl (omega arith) (omega arith)
-    (tail-byte (n / 0x1000) _ _ last))
+    (tail_byte (n / 0x1000) _ _ last))
     (λ d. in_row 8 0xF4 0xF4 _ (0xF0 + n / 0x40000) _ refl refl (omega arith) (omega arith)
-    (next-byte 0x80 0x8F (0x80 + n / 0x1000 % 0x40) _ _ (omega arith) (omega arith) last)))
+    (next_byte 0x80 0x8F (0x80 + n / 0x1000 % 0x40) _ _ (omega arith) (omega arith) last)))
   where
     last : well (tail ∷ tail ∷ []) ((0x80 + n / 0x40 % 0x40) ∷ (0x80 + n % 0x40) ∷ []) ≡ true
-    last = tail-byte (n / 0x40) (tail ∷ []) ((0x80 + n % 0x40) ∷ []) (tail-byte n [] [] well-nil)
+    last = tail_byte (n / 0x40) (tail ∷ []) ((0x80 + n % 0x40) ∷ []) (tail_byte n [] [] well_nil)
 
 pub encoded-utf8 : (n : ℕ) → n ≤ 0x10FFFF → between 0xD800 0xDFFF n ≡ false → utf8 (encoded n) ≡ true
 unfolding encoded rows below
 encoded-utf8 n h s =
     split n 0x7F
-    (λ a. rw (le-leb n 0x7F a) (in_row 0 0x00 0x7F _ n [] refl refl (omega arith) a well-nil))
+    (λ a. rw (le-leb n 0x7F a) (in_row 0 0x00 0x7F _ n [] refl refl (omega arith) a well_nil))
     (λ a. rw (lt-leb n 0x7F a) (split n 0x7FF
     (λ b. rw (le-leb n 0x7FF b)
-    (in_row 1 0xC2 0xDF _ (0xC0 + n / 0x40) _ refl refl (omega arith) (omega arith) (tail-byte n [] [] well-nil)))
+    (in_row 1 0xC2 0xDF _ (0xC0 + n / 0x40) _ refl refl (omega arith) (omega arith) (tail_byte n [] [] well_nil)))
     (λ b. rw (lt-leb n 0x7FF b) (split n 0xFFFF
-    (λ c. rw (le-leb n 0xFFFF c) (three-bytes n b c s))
+    (λ c. rw (le-leb n 0xFFFF c) (three_bytes n b c s))
     (λ c. rw (lt-leb n 0xFFFF c) (four_bytes n c h))))))

@@ -4,17 +4,17 @@ use Prim.Native.Nat.{◌+◌, ◌≤◌}
 use native.Mathlib.Omega.{arith}
 use mathlib.Core.List.{[], ◌∷◌, ◌++◌}
 use lib.ListN.{length}
-use Rattle.lines.specs.Bytes.{Bytes, isLF, lineFeeds}
+use Rattle.lines.specs.Bytes.{Bytes, is_lf, line_feeds}
 use Rattle.lines.proofs.Bools.{by_cases}
 
-pub lineFeeds-append : (a b : Bytes) → lineFeeds (a ++ b) ≡ lineFeeds a + lineFeeds b
-unfolding lineFeeds
-lineFeeds-append [] b = omega arith
-lineFeeds-append (x ∷ a) b =
-    by_cases (isLF x) (λ e. rw e (omega (arith, lineFeeds-append a b))) (λ e. rw e (lineFeeds-append a b))
+pub line_feeds_append : (a b : Bytes) → line_feeds (a ++ b) ≡ line_feeds a + line_feeds b
+unfolding line_feeds
+line_feeds_append [] b = omega arith
+line_feeds_append (x ∷ a) b =
+    by_cases (is_lf x) (λ e. rw e (omega (arith, line_feeds_append a b))) (λ e. rw e (line_feeds_append a b))
 
-pub lineFeeds-length : (l : Bytes) → lineFeeds l ≤ length l
-unfolding lineFeeds
-lineFeeds-length [] = omega arith
-lineFeeds-length (b ∷ bs) =
-    by_cases (isLF b) (λ e. rw e (omega (arith, lineFeeds-length bs))) (λ e. rw e (omega (arith, lineFeeds-length bs)))
+pub line_feeds-length : (l : Bytes) → line_feeds l ≤ length l
+unfolding line_feeds
+line_feeds-length [] = omega arith
+line_feeds-length (b ∷ bs) =
+    by_cases (is_lf b) (λ e. rw e (omega (arith, line_feeds-length bs))) (λ e. rw e (omega (arith, line_feeds-length bs)))

@@ -10,20 +10,20 @@ use lib.ListN.{length, get_or, take, drop, length-drop}
 use lib.Seq.{split_at, drop-cons, drop-length}
 use borrow.Author.Tests.{eqb-true}
 use Rattle.lines.specs.Bytes.{Bytes, all}
-use Rattle.lines.specs.Lines.{backslash, closingRun, odd, continued, spaced}
-use Rattle.lines.proofs.Bools.{by_cases, impossible, and_left, and_right, and-false, all_append}
+use Rattle.lines.specs.Lines.{backslash, closing_run, odd, continued, spaced}
+use Rattle.lines.proofs.Bools.{by_cases, impossible, and_left, and_right, and_false, all_append}
 
-pub closing-all : (l : Bytes) → all backslash l ≡ true → closingRun l ≡ length l
-unfolding closingRun
-closing-all [] h = refl
-closing-all (b ∷ bs) h = rw h
+pub closing_all : (l : Bytes) → all backslash l ≡ true → closing_run l ≡ length l
+unfolding closing_run
+closing_all [] h = refl
+closing_all (b ∷ bs) h = rw h
 
-pub closing_after : (a : Bytes) (c : ℕ) (b : Bytes) → backslash c ≡ false → closingRun (a ++ c ∷ b) ≡ closingRun b
-unfolding closingRun all
+pub closing_after : (a : Bytes) (c : ℕ) (b : Bytes) → backslash c ≡ false → closing_run (a ++ c ∷ b) ≡ closing_run b
+unfolding closing_run all
 closing_after [] c b h = rw h
 closing_after (x ∷ a) c b h =
-    let no : all backslash (a ++ c ∷ b) ≡ false = all_append backslash a (c ∷ b) ∙ rw (h, and-false) in
-    rw (no, and-false) (closing_after a c b h)
+    let no : all backslash (a ++ c ∷ b) ≡ false = all_append backslash a (c ∷ b) ∙ rw (h, and_false) in
+    rw (no, and_false) (closing_after a c b h)
 
 pub continued-after : (a : Bytes) (c : ℕ) (b : Bytes) → backslash c ≡ false → continued (a ++ c ∷ b) ≡ continued b
 unfolding continued
@@ -34,30 +34,30 @@ continued-after a c b h = ap odd (closing_after a c b h)
 pub record Spaced (l : Bytes) : Type 0 where
   pub front : Bytes
   pub was : l ≡ front ++ 0x5C ∷ []
-  pub now-is : spaced l ≡ front ++ 0x20 ∷ []
+  pub now_is : spaced l ≡ front ++ 0x20 ∷ []
 
 spaced-all : (b : ℕ) (bs : Bytes) → all backslash (b ∷ bs) ≡ true → Spaced (b ∷ bs)
 unfolding all spaced
 spaced-all b [] h =
-    record { front = []; was = ap (λ (x : ℕ). x ∷ []) (eqb-true b 0x5C (and_left (backslash b) true h)); now-is = refl }
+    record { front = []; was = ap (λ (x : ℕ). x ∷ []) (eqb-true b 0x5C (and_left (backslash b) true h)); now_is = refl }
 spaced-all b (c ∷ cs) h =
     let r : Spaced (c ∷ cs) = spaced-all c cs (and_right (backslash b) (all backslash (c ∷ cs)) h) in
-    record { front = b ∷ r.front; was = ap (λ (l : Bytes). b ∷ l) r.was; now-is = ap (λ (l : Bytes). b ∷ l) r.now-is }
+    record { front = b ∷ r.front; was = ap (λ (l : Bytes). b ∷ l) r.was; now_is = ap (λ (l : Bytes). b ∷ l) r.now_is }
 
-spaced-run : (b : ℕ) (bs : Bytes) → odd (closingRun (b ∷ bs)) ≡ true → Spaced (b ∷ bs)
-unfolding closingRun all odd spaced
+spaced-run : (b : ℕ) (bs : Bytes) → odd (closing_run (b ∷ bs)) ≡ true → Spaced (b ∷ bs)
+unfolding closing_run all odd spaced
 spaced-run b [] h = by_cases (all backslash (b ∷ [])) (λ e. spaced-all b [] e) (λ e. impossible (rw e at h))
 spaced-run b (c ∷ cs) h =
     by_cases (all backslash (b ∷ c ∷ cs)) (λ e. spaced-all b (c ∷ cs) e)
     (λ e. more (spaced-run c cs (rw e at h)))
   where
     more : Spaced (c ∷ cs) → Spaced (b ∷ c ∷ cs)
-    more r = record { front = b ∷ r.front; was = ap (λ (l : Bytes). b ∷ l) r.was; now-is = ap (λ (l : Bytes). b ∷ l) r.now-is }
+    more r = record { front = b ∷ r.front; was = ap (λ (l : Bytes). b ∷ l) r.was; now_is = ap (λ (l : Bytes). b ∷ l) r.now_is }
 
-pub is-spaced : (l : Bytes) → continued l ≡ true → Spaced l
-unfolding continued closingRun odd
-is-spaced [] h = impossible h
-is-spaced (b ∷ bs) h = spaced-run b bs h
+pub is_spaced : (l : Bytes) → continued l ≡ true → Spaced l
+unfolding continued closing_run odd
+is_spaced [] h = impossible h
+is_spaced (b ∷ bs) h = spaced-run b bs h
 
 pub spaced-length : (l : Bytes) → length (spaced l) ≡ length l
 unfolding spaced
@@ -68,13 +68,13 @@ spaced-length (b ∷ c ∷ cs) = ap suc (spaced-length (c ∷ cs))
 -- ---- counted from the end
 
 -- the bytes from n on are all backslashes, and the byte before them is none
-pub run-stops : (l : Bytes) (j n : ℕ) → j + 1 ≡ n → n ≤ length l → backslash (get_or l j 0) ≡ false → all backslash (drop n l) ≡ true
-    → closingRun l ≡ length l - n
-run-stops l j n e h other run =
+pub run_stops : (l : Bytes) (j n : ℕ) → j + 1 ≡ n → n ≤ length l → backslash (get_or l j 0) ≡ false → all backslash (drop n l) ≡ true
+    → closing_run l ≡ length l - n
+run_stops l j n e h other run =
     let c : ℕ = get_or l j 0 in
     let d : drop (suc j) l ≡ drop n l = ap (λ (k : ℕ). drop k l) (sym (add-one j) ∙ e) in
-    ap closingRun (split_at l j 0 (omega arith)) ∙ closing_after (take j l) c (drop (suc j) l) other
-    ∙ ap closingRun d ∙ closing-all (drop n l) run ∙ length-drop n l
+    ap closing_run (split_at l j 0 (omega arith)) ∙ closing_after (take j l) c (drop (suc j) l) other
+    ∙ ap closing_run d ∙ closing_all (drop n l) run ∙ length-drop n l
 
 -- one backslash more
 pub run_more : (l : Bytes) (j n : ℕ) → j + 1 ≡ n → n ≤ length l → backslash (get_or l j 0) ≡ true → all backslash (drop n l) ≡ true

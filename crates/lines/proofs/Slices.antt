@@ -10,8 +10,8 @@ use lib.Seq.{take_all, drop-cons}
 use Rattle.lines.specs.Bytes.{Bytes, all, any}
 
 -- `&l[i..]` is lent as its first `length l - i` bytes: all of them
-pub part-from : (i : ℕ) (l : Bytes) → take (length l - i) (drop i l) ≡ drop i l
-part-from i l = take_all (length l - i) (drop i l) (omega (arith, length-drop i l))
+pub part_from : (i : ℕ) (l : Bytes) → take (length l - i) (drop i l) ≡ drop i l
+part_from i l = take_all (length l - i) (drop i l) (omega (arith, length-drop i l))
 
 -- the first byte of what is left at an index, with the code's `at + 1`
 pub opened : (s : Bytes) (at : ℕ) → at < length s → drop at s ≡ get_or s at 0 ∷ drop (at + 1) s

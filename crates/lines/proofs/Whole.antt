@@ -6,31 +6,31 @@ use lib.ListN.{length}
 use Rattle.lines.specs.Laws.{All, Whole, bytes_of}
 use Rattle.lines.specs.Bytes.{Bytes}
 use Rattle.lines.specs.Lines.{physical, joined, logical, written}
-use Rattle.lines.proofs.Physicals.{shutLine, physical-cons}
-use Rattle.lines.proofs.Joining.{joined-nil, joined_line}
+use Rattle.lines.proofs.Physicals.{shut_line, physical_cons}
+use Rattle.lines.proofs.Joining.{joined_nil, joined_line}
 
 -- lines behind lines
-pub written-append : (a b : List Bytes) → written (a ++ b) ≡ written a ++ written b
+pub written_append : (a b : List Bytes) → written (a ++ b) ≡ written a ++ written b
 unfolding written
-written-append [] b = refl
-written-append (l ∷ a) b = rw (written-append a b) (sym (append_assoc l (0x0A ∷ written a) (written b)))
+written_append [] b = refl
+written_append (l ∷ a) b = rw (written_append a b) (sym (append_assoc l (0x0A ∷ written a) (written b)))
 
 -- in front of any file
-pub whole-cons : (l rest : Bytes) (n a : ℕ) → Whole l
-    → joined (physical n a (l ++ 0x0A ∷ rest)) ≡ shutLine n a l ∷ joined (physical (suc n) (suc (a + length l)) rest)
-whole-cons l rest n a w =
-    ap joined (physical-cons l rest n a w.one)
-    ∙ joined_line (shutLine n a l) (physical (suc n) (suc (a + length l)) rest) w.kept w.ends
+pub whole_cons : (l rest : Bytes) (n a : ℕ) → Whole l
+    → joined (physical n a (l ++ 0x0A ∷ rest)) ≡ shut_line n a l ∷ joined (physical (suc n) (suc (a + length l)) rest)
+whole_cons l rest n a w =
+    ap joined (physical_cons l rest n a w.one)
+    ∙ joined_line (shut_line n a l) (physical (suc n) (suc (a + length l)) rest) w.kept w.ends
 
 -- ---- a text of such lines
 
-pub whole-lines : (ls : List Bytes) (n a : ℕ) → All Whole ls → bytes_of (joined (physical n a (written ls))) ≡ ls
+pub whole_lines : (ls : List Bytes) (n a : ℕ) → All Whole ls → bytes_of (joined (physical n a (written ls))) ≡ ls
 unfolding written physical
-whole-lines [] n a h = ap bytes_of joined-nil
-whole-lines (l ∷ ls) n a h =
-    ap bytes_of (whole-cons l (written ls) n a h.0)
-    ∙ ap (λ (r : List Bytes). l ∷ r) (whole-lines ls (suc n) (suc (a + length l)) h.1)
+whole_lines [] n a h = ap bytes_of joined_nil
+whole_lines (l ∷ ls) n a h =
+    ap bytes_of (whole_cons l (written ls) n a h.0)
+    ∙ ap (λ (r : List Bytes). l ∷ r) (whole_lines ls (suc n) (suc (a + length l)) h.1)
 
 pub logical-written : (ls : List Bytes) → All Whole ls → bytes_of (logical (written ls)) ≡ ls
 unfolding logical
-logical-written ls h = whole-lines ls 1 0 h
+logical-written ls h = whole_lines ls 1 0 h

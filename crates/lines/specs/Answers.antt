@@ -25,5 +25,5 @@ place_of (ControlByte n) = n
 place_of (LineTooLong n) = n
 
 -- an error is a refusal
-abbrev pub errorMeans : {A : Type 0} → Error → Outcome A
-errorMeans e = refused (number_of e) (place_of e)
+abbrev pub error_means : {A : Type 0} → Error → Outcome A
+error_means e = refused (number_of e) (place_of e)

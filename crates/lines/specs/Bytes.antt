@@ -10,8 +10,8 @@ abbrev pub between : ℕ → ℕ → ℕ → Bool
 between low high b = leb low b && leb b high
 
 -- the line feed
-abbrev pub isLF : ℕ → Bool
-isLF b = eqb b 0x0A
+abbrev pub is_lf : ℕ → Bool
+is_lf b = eqb b 0x0A
 
 -- a blank: space or tab
 abbrev pub blank : ℕ → Bool
@@ -30,12 +30,12 @@ abbrev pub digit : ℕ → Bool
 digit b = between 0x30 0x39 b
 
 -- a byte of a key: letter, digit, - _ .
-abbrev pub keyByte : ℕ → Bool
-keyByte b = letter b || digit b || eqb b 0x2D || eqb b 0x5F || eqb b 0x2E
+abbrev pub key_byte : ℕ → Bool
+key_byte b = letter b || digit b || eqb b 0x2D || eqb b 0x5F || eqb b 0x2E
 
 -- a byte of the name in a section header (the rules' heading): 20 to 7E, neither [ nor ]
-abbrev pub headerByte : ℕ → Bool
-headerByte b = between 0x20 0x7E b && not (eqb b 0x5B || eqb b 0x5D)
+abbrev pub header_byte : ℕ → Bool
+header_byte b = between 0x20 0x7E b && not (eqb b 0x5B || eqb b 0x5D)
 
 -- ---- on runs of bytes
 
@@ -57,6 +57,6 @@ equal (b ∷ bs) [] = false
 equal (b ∷ bs) (c ∷ cs) = eqb b c && equal bs cs
 
 -- how many LFs there are
-unfoldable pub lineFeeds : Bytes → ℕ
-lineFeeds [] = 0
-lineFeeds (b ∷ bs) = cond (isLF b) (suc (lineFeeds bs)) (lineFeeds bs)
+unfoldable pub line_feeds : Bytes → ℕ
+line_feeds [] = 0
+line_feeds (b ∷ bs) = cond (is_lf b) (suc (line_feeds bs)) (line_feeds bs)

@@ -1,12 +1,12 @@
 -- What the crates above rest on beside the promises: statements about the definitions, proved in
 -- proofs/Laws.antt.
 use Rattle.std.specs.Prelude.{◌≡◌, ℕ, suc, ◌+◌, ◌≤◌, ◌<◌, Bool, true, false, not, ◌&&◌, List, [], ◌∷◌, ◌++◌, length, leb, eqb}
-use Rattle.lines.specs.Bytes.{Bytes, isLF, blank, control, between, all, lineFeeds}
+use Rattle.lines.specs.Bytes.{Bytes, is_lf, blank, control, between, all, line_feeds}
 use Rattle.lines.specs.Answers.{accepted, number_of, place_of}
 use Rattle.lines.specs.Utf8.{utf8, encoded}
-use Rattle.lines.specs.Lines.{Line, physical, comment, continued, joinNext, joined, logical, written}
-use Rattle.lines.specs.Files.{unterminated, size, checkedFile}
-use Rattle.lines.specs.Cursors.{firstCursor, logicalFrom, cursorPast, NextLine}
+use Rattle.lines.specs.Lines.{Line, physical, comment, continued, join_next, joined, logical, written}
+use Rattle.lines.specs.Files.{unterminated, size, checked_file}
+use Rattle.lines.specs.Cursors.{first_cursor, logical_from, cursor_past, NextLine}
 use Rattle.lines.specs.Buffers.{filled}
 use Rattle.lines.specs.declared.error.Error.{Error}
 use Rattle.lines.specs.declared.joiner.Cursor.{Cursor}
@@ -44,11 +44,11 @@ pub record Sound (f : Bytes) : Type 0 where
 
 -- none of 2, 3 and 4 is met exactly by a sound file
 abbrev pub CheckedSound : Type 0
-CheckedSound = (f : Bytes) → checkedFile f ≡ accepted tt → Sound f
+CheckedSound = (f : Bytes) → checked_file f ≡ accepted tt → Sound f
 
 -- and the other way round
 abbrev pub SoundChecked : Type 0
-SoundChecked = (f : Bytes) → Sound f → checkedFile f ≡ accepted tt
+SoundChecked = (f : Bytes) → Sound f → checked_file f ≡ accepted tt
 
 -- ---- one more physical line in front
 
@@ -64,7 +64,7 @@ LineKept = (l : Line) (ls : List Line) → comment l.bytes ≡ false → continu
 -- a continued line takes the next logical line
 abbrev pub LineContinued : Type 0
 LineContinued = (l : Line) (ls : List Line) → comment l.bytes ≡ false → continued l.bytes ≡ true
-    → joined (l ∷ ls) ≡ joinNext l (joined ls)
+    → joined (l ∷ ls) ≡ join_next l (joined ls)
 
 -- a comment may stand anywhere among the lines
 abbrev pub CommentAnywhere : Type 0
@@ -77,7 +77,7 @@ NoComment = (b : ℕ) (bs : Bytes) → blank b ≡ false → eqb b 0x23 ≡ fals
 -- behind a part that ends in LF, or is empty, the lines of the rest stand for themselves
 abbrev pub LinesAppend : Type 0
 LinesAppend = (p q : Bytes) (n a : ℕ) → unterminated p ≡ false
-    → physical n a (p ++ q) ≡ physical n a p ++ physical (n + lineFeeds p) (a + length p) q
+    → physical n a (p ++ q) ≡ physical n a p ++ physical (n + line_feeds p) (a + length p) q
 
 -- the bytes of each line
 abbrev pub bytes_of : List Line → List Bytes
@@ -92,21 +92,21 @@ NumbersApart = (f : Bytes) (n a m b : ℕ) → bytes_of (joined (physical n a f)
 
 -- from the first cursor on stand the logical lines of the file
 abbrev pub ReadsAll : Type 0
-ReadsAll = (f : Bytes) → logicalFrom f firstCursor ≡ logical f
+ReadsAll = (f : Bytes) → logical_from f first_cursor ≡ logical f
 
 -- The line l is the next one at c. Behind it stand the lines from the cursor past it on. That cursor lies
 -- further on, in the file or at its end, and the line has no more bytes than were passed.
 pub record Ahead (f : Bytes) (c : Cursor) (l : Line) (ls : List Line) : Type 0 where
-  pub others : ls ≡ logicalFrom f (cursorPast f c l)
-  pub inside : (cursorPast f c l).offset ≤ length f
-  pub later : c.offset < (cursorPast f c l).offset
-  pub shorter : c.offset + length l.bytes ≤ (cursorPast f c l).offset
-  pub number : (cursorPast f c l).line ≤ (cursorPast f c l).offset + 1
+  pub others : ls ≡ logical_from f (cursor_past f c l)
+  pub inside : (cursor_past f c l).offset ≤ length f
+  pub later : c.offset < (cursor_past f c l).offset
+  pub shorter : c.offset + length l.bytes ≤ (cursor_past f c l).offset
+  pub number : (cursor_past f c l).line ≤ (cursor_past f c l).offset + 1
   pub first : c.line ≤ l.number
 
 -- this holds of each line that is next
 abbrev pub ReadsOn : Type 0
-ReadsOn = (f : Bytes) (c : Cursor) (l : Line) (ls : List Line) → logicalFrom f c ≡ l ∷ ls → Ahead f c l ls
+ReadsOn = (f : Bytes) (c : Cursor) (l : Line) (ls : List Line) → logical_from f c ≡ l ∷ ls → Ahead f c l ls
 
 -- ---- what the promise of `next_line` tells a caller
 
@@ -114,9 +114,9 @@ ReadsOn = (f : Bytes) (c : Cursor) (l : Line) (ls : List Line) → logicalFrom f
 -- next cursor on are the others.
 pub record FoundLine (f : Bytes) (c : Cursor) (before after : Bytes) (n m : ℕ) (d : Cursor) : Type 0 where
   pub line : Line
-  pub view : logicalFrom f c ≡ line ∷ logicalFrom f d
+  pub view : logical_from f c ≡ line ∷ logical_from f d
   pub number_is : line.number ≡ m
-  pub length-is : length line.bytes ≡ n
+  pub length_is : length line.bytes ≡ n
   pub fits : n ≤ 4096
   pub buffer : after ≡ filled line.bytes before
   pub inside : d.offset ≤ length f
@@ -130,13 +130,13 @@ FoundTells = (f : Bytes) (c : Cursor) (before after : Bytes) (n m : ℕ) (d : Cu
 -- no line is left, and the buffer is as it was
 abbrev pub EndTells : Type 0
 EndTells = (f : Bytes) (c : Cursor) (before after : Bytes)
-    → NextLine f c before after End → (logicalFrom f c ≡ []) × (after ≡ before)
+    → NextLine f c before after End → (logical_from f c ≡ []) × (after ≡ before)
 
 -- With a buffer that is long enough, a refusal is 5: the next line is too long. The buffer is as it was.
 pub record LongLine (f : Bytes) (c : Cursor) (before after : Bytes) (e : Error) : Type 0 where
   pub line : Line
   pub others : List Line
-  pub view : logicalFrom f c ≡ line ∷ others
+  pub view : logical_from f c ≡ line ∷ others
   pub long : 4096 < length line.bytes
   pub number : number_of e ≡ 5
   pub place : place_of e ≡ line.number
@@ -165,13 +165,13 @@ All P [] = Unit {0}
 All P (x ∷ xs) = P x × All P xs
 
 -- no byte is LF
-unfoldable pub noLF : Bytes → Bool
+unfoldable pub no_lf : Bytes → Bool
 unfolding all
-noLF l = all (λ b. not (isLF b)) l
+no_lf l = all (λ b. not (is_lf b)) l
 
 -- a line that stands for itself: no LF, no comment, no odd closing run
 pub record Whole (l : Bytes) : Type 0 where
-  pub one : noLF l ≡ true
+  pub one : no_lf l ≡ true
   pub kept : comment l ≡ false
   pub ends : continued l ≡ false
 
@@ -182,13 +182,13 @@ ReadBack = (ls : List Bytes) → All Whole ls → bytes_of (logical (written ls)
 -- ---- legal lines
 
 -- a byte that may stand in a line
-abbrev pub lineByte : ℕ → Bool
-lineByte b = plain b && not (isLF b)
+abbrev pub line_byte : ℕ → Bool
+line_byte b = plain b && not (is_lf b)
 
 -- UTF-8, with neither LF nor a control byte
 pub record Legal (l : Bytes) : Type 0 where
   pub characters : utf8 l ≡ true
-  pub bytes : all lineByte l ≡ true
+  pub bytes : all line_byte l ≡ true
 
 -- legal, and ending in no odd run of backslashes
 pub record Settled (l : Bytes) : Type 0 where

@@ -1,8 +1,8 @@
 -- Physical lines, comment lines, joining, logical lines.
 use Rattle.std.specs.Prelude.{ℕ, zero, suc, Bool, false, not, ◌||◌, cond, List, [], ◌∷◌, ◌++◌, length, eqb, ltb}
 use Rattle.std.proofs.Math.Option.{Option, none, some}
-use Rattle.lines.specs.Bytes.{Bytes, isLF, all}
-use Rattle.lines.specs.Trim.{trimStart}
+use Rattle.lines.specs.Bytes.{Bytes, is_lf, all}
+use Rattle.lines.specs.Trim.{trim_start}
 
 -- A physical or a logical line: the number of the (first) physical line that it is made of, its bytes,
 -- and the offset just after the LF that ends it, none where the file's end does.
@@ -25,25 +25,25 @@ unfoldable pub physical : ℕ → ℕ → Bytes → List Line
 unfolding prepend
 physical n a [] = []
 physical n a (b ∷ bs) =
-    cond (isLF b)
+    cond (is_lf b)
     (record { number = n; bytes = []; end = some (suc a) } ∷ physical (suc n) (suc a) bs)
     (prepend n b (physical n (suc a) bs))
 
 -- ---- comment lines
 
 -- the mark of a comment: # or ;
-abbrev pub commentMark : ℕ → Bool
-commentMark b = eqb b 0x23 || eqb b 0x3B
+abbrev pub comment_mark : ℕ → Bool
+comment_mark b = eqb b 0x23 || eqb b 0x3B
 
 -- the first byte is such a mark
 unfoldable pub marked : Bytes → Bool
 marked [] = false
-marked (b ∷ bs) = commentMark b
+marked (b ∷ bs) = comment_mark b
 
 -- a comment line is one whose first byte that is no blank is # or ;
 unfoldable pub comment : Bytes → Bool
-unfolding marked trimStart
-comment l = marked (trimStart l)
+unfolding marked trim_start
+comment l = marked (trim_start l)
 
 -- ---- continued lines
 
@@ -52,10 +52,10 @@ abbrev pub backslash : ℕ → Bool
 backslash b = eqb b 0x5C
 
 -- the length of the run of backslashes that closes a line
-unfoldable pub closingRun : Bytes → ℕ
+unfoldable pub closing_run : Bytes → ℕ
 unfolding all
-closingRun [] = 0
-closingRun (b ∷ bs) = cond (all backslash (b ∷ bs)) (length (b ∷ bs)) (closingRun bs)
+closing_run [] = 0
+closing_run (b ∷ bs) = cond (all backslash (b ∷ bs)) (length (b ∷ bs)) (closing_run bs)
 
 -- an odd number
 unfoldable pub odd : ℕ → Bool
@@ -64,8 +64,8 @@ odd (suc n) = not (odd n)
 
 -- a line is continued when that run is odd
 unfoldable pub continued : Bytes → Bool
-unfolding odd closingRun
-continued l = odd (closingRun l)
+unfolding odd closing_run
+continued l = odd (closing_run l)
 
 -- the last byte becomes one space
 unfoldable pub spaced : Bytes → Bytes
@@ -78,22 +78,22 @@ spaced (b ∷ c ∷ cs) = b ∷ spaced (c ∷ cs)
 -- A continued line l, and the logical lines of what comes after it. The first of these begins with the
 -- next line that is no comment, and follows at once, its leading blanks kept. Where there is none the
 -- file has ended and the line is complete; its backslash is a space there too (bench case 4).
-unfoldable pub joinNext : Line → List Line → List Line
+unfoldable pub join_next : Line → List Line → List Line
 unfolding spaced
-joinNext l [] = record { number = l.number; bytes = spaced l.bytes; end = none } ∷ []
-joinNext l (k ∷ ks) = record { number = l.number; bytes = spaced l.bytes ++ k.bytes; end = k.end } ∷ ks
+join_next l [] = record { number = l.number; bytes = spaced l.bytes; end = none } ∷ []
+join_next l (k ∷ ks) = record { number = l.number; bytes = spaced l.bytes ++ k.bytes; end = k.end } ∷ ks
 
 -- The logical lines of physical lines. A comment line is dropped whole, wherever it stands.
 unfoldable pub joined : List Line → List Line
-unfolding comment continued joinNext
+unfolding comment continued join_next
 joined [] = []
 joined (l ∷ ls) =
     cond (comment l.bytes) (joined ls)
-    (cond (continued l.bytes) (joinNext l (joined ls)) (l ∷ joined ls))
+    (cond (continued l.bytes) (join_next l (joined ls)) (l ∷ joined ls))
 
 -- a logical line has at most 4,096 bytes before trimming
-abbrev pub tooLong : Line → Bool
-tooLong l = ltb 4096 (length l.bytes)
+abbrev pub too_long : Line → Bool
+too_long l = ltb 4096 (length l.bytes)
 
 -- the logical lines of a file, before trimming
 unfoldable pub logical : Bytes → List Line

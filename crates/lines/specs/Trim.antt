@@ -4,17 +4,17 @@ use Rattle.std.specs.Prelude.{cond, [], ◌∷◌}
 use Rattle.lines.specs.Bytes.{Bytes, blank, all}
 
 -- without the blanks at the start
-unfoldable pub trimStart : Bytes → Bytes
-trimStart [] = []
-trimStart (b ∷ bs) = cond (blank b) (trimStart bs) (b ∷ bs)
+unfoldable pub trim_start : Bytes → Bytes
+trim_start [] = []
+trim_start (b ∷ bs) = cond (blank b) (trim_start bs) (b ∷ bs)
 
 -- without the blanks at the end
-unfoldable pub trimEnd : Bytes → Bytes
+unfoldable pub trim_end : Bytes → Bytes
 unfolding all
-trimEnd [] = []
-trimEnd (b ∷ bs) = cond (all blank (b ∷ bs)) [] (b ∷ trimEnd bs)
+trim_end [] = []
+trim_end (b ∷ bs) = cond (all blank (b ∷ bs)) [] (b ∷ trim_end bs)
 
 -- without both
 unfoldable pub trimmed : Bytes → Bytes
-unfolding trimStart trimEnd
-trimmed l = trimEnd (trimStart l)
+unfolding trim_start trim_end
+trimmed l = trim_end (trim_start l)

@@ -63,15 +63,15 @@ unfolding well
 utf8 f = well [] f
 
 -- the length of the longest well-formed start among those of at most n bytes, where there are n
-unfoldable pub startWithin : ℕ → Bytes → ℕ
+unfoldable pub start_within : ℕ → Bytes → ℕ
 unfolding utf8
-startWithin zero f = 0
-startWithin (suc n) f = cond (utf8 (take (suc n) f)) (suc n) (startWithin n f)
+start_within zero f = 0
+start_within (suc n) f = cond (utf8 (take (suc n) f)) (suc n) (start_within n f)
 
 -- the length of the longest well-formed start
-unfoldable pub longestStart : Bytes → ℕ
-unfolding startWithin
-longestStart f = startWithin (length f) f
+unfoldable pub longest_start : Bytes → ℕ
+unfolding start_within
+longest_start f = start_within (length f) f
 
 -- the bytes of a code point: at most 10FFFF, and none of D800 to DFFF
 unfoldable pub encoded : ℕ → Bytes

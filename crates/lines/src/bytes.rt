@@ -1,7 +1,7 @@
 // Tests on bytes, and total helpers on slices.
 ghost use Rattle.std.specs.Prelude.{◌≡◌, ◌&&◌, cond, ◌+◌, ◌≤◌, length, leb, eqb};
-ghost use Rattle.lines.specs.Bytes.{between, blank, control, letter, digit, keyByte, headerByte, equal};
-ghost use Rattle.lines.specs.Trim.{trimStart, trimEnd, trimmed};
+ghost use Rattle.lines.specs.Bytes.{between, blank, control, letter, digit, key_byte, header_byte, equal};
+ghost use Rattle.lines.specs.Trim.{trim_start, trim_end, trimmed};
 ghost use Rattle.lines.specs.Buffers.{put};
 
 // ---- tests on a byte
@@ -44,7 +44,7 @@ pub fn is_digit(b: u8) -> bool
 
 // A byte that a key may have.
 pub fn is_key_byte(b: u8) -> bool
-    ensures { result ≡ keyByte b }
+    ensures { result ≡ key_byte b }
 {
     if is_letter(b) {
         return true;
@@ -60,7 +60,7 @@ pub fn is_key_byte(b: u8) -> bool
 
 // A byte that the name in a section header may have.
 pub fn is_header_byte(b: u8) -> bool
-    ensures { result ≡ headerByte b }
+    ensures { result ≡ header_byte b }
 {
     if b == b'[' {
         return false;
@@ -103,7 +103,7 @@ pub fn same(a: &[u8], b: &[u8]) -> bool
 // ---- trimming: the part of a text without the blanks at one end, or at both
 
 pub fn trim_start(text: &[u8]) -> &[u8]
-    ensures { result.now ≡ trimStart text.now }
+    ensures { result.now ≡ trim_start text.now }
 {
     let mut start = 0;
     while start < text.len() {
@@ -117,7 +117,7 @@ pub fn trim_start(text: &[u8]) -> &[u8]
 }
 
 pub fn trim_end(text: &[u8]) -> &[u8]
-    ensures { result.now ≡ trimEnd text.now }
+    ensures { result.now ≡ trim_end text.now }
 {
     let mut end = text.len();
     while 0 < end {

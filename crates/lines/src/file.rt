@@ -1,7 +1,7 @@
 // The check of a whole file, before its lines are read.
 ghost use Rattle.std.specs.Prelude.{◌≡◌, ltb};
-ghost use Rattle.lines.specs.Files.{size, checkedBytes, checkedFile, checkMeans};
-ghost use Rattle.lines.specs.CharSteps.{controlAfter};
+ghost use Rattle.lines.specs.Files.{size, checked_bytes, checked_file, check_means};
+ghost use Rattle.lines.specs.CharSteps.{control_after};
 
 use crate::bytes::{is_between, is_control};
 use crate::error::Error;
@@ -28,7 +28,7 @@ fn too_long(file: &[u8]) -> bool
 
 // The line of the first control byte, where `found` is that of the bytes before b; 0 is none.
 fn control_after(found: usize, line: usize, b: u8) -> usize
-    ensures { result ≡ controlAfter found line b }
+    ensures { result ≡ control_after found line b }
 {
     if found == 0 {
         if is_control(b) {
@@ -41,7 +41,7 @@ fn control_after(found: usize, line: usize, b: u8) -> usize
 // The bytes of a file: first UTF-8, then control bytes, in one pass from character to character. Bytes 20 to 7E are
 // characters that change nothing else; only the other characters of one byte can be an LF or a control byte.
 fn check_bytes(file: &[u8]) -> Check
-    ensures { checkMeans result ≡ checkedBytes file.now }
+    ensures { check_means result ≡ checked_bytes file.now }
 {
     let mut i = 0;
     let mut line = 1;
@@ -72,7 +72,7 @@ fn check_bytes(file: &[u8]) -> Check
 
 // What is judged of a whole file: its size, UTF-8, control bytes.
 pub fn check_file(file: &[u8]) -> Check
-    ensures { checkMeans result ≡ checkedFile file.now }
+    ensures { check_means result ≡ checked_file file.now }
 {
     if too_long(file) {
         return Check::Refused(Error::FileTooLong);

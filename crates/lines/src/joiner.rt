@@ -1,8 +1,8 @@
 // The line joiner: one logical line after the other.
 ghost use Rattle.std.specs.Prelude.{◌≡◌, ◌+◌, ◌≤◌, length};
 ghost use Rattle.lines.specs.Buffers.{filled, put};
-ghost use Rattle.lines.specs.Cursors.{firstCursor, linesAt, NextLine};
-ghost use Rattle.lines.specs.LineSteps.{piece, firstBytes, At, PhysicalAt, Standing, PieceOf, Skipped, MeasuredAt};
+ghost use Rattle.lines.specs.Cursors.{first_cursor, lines_at, NextLine};
+ghost use Rattle.lines.specs.LineSteps.{piece, first_bytes, At, PhysicalAt, Standing, PieceOf, Skipped, MeasuredAt};
 
 use crate::bytes::copy_into;
 use crate::error::Error;
@@ -18,7 +18,7 @@ pub struct Cursor {
 impl Cursor {
     // At the first byte, in line 1.
     pub fn first() -> Cursor
-        ensures { result ≡ firstCursor }
+        ensures { result ≡ first_cursor }
     {
         Cursor { offset: 0, line: 1 }
     }
@@ -158,8 +158,8 @@ fn measure(file: &[u8], start: Cursor) -> Measured
 
 // Copies the logical line at `start` to the front of the buffer.
 fn copy_joined(file: &[u8], start: Cursor, buffer: &mut [u8])
-    requires { Standing file.now start × (length (firstBytes (linesAt file.now start)) ≤ length buffer.old) }
-    ensures { buffer.new ≡ filled (firstBytes (linesAt file.now start)) buffer.old }
+    requires { Standing file.now start × (length (first_bytes (lines_at file.now start)) ≤ length buffer.old) }
+    ensures { buffer.new ≡ filled (first_bytes (lines_at file.now start)) buffer.old }
 {
     let mut c = start;
     let mut n = 0;

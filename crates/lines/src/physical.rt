@@ -1,13 +1,13 @@
 // Physical lines: where they end, which are comments, which are continued.
 ghost use Rattle.std.specs.Prelude.{◌≡◌, ◌+◌, drop};
 ghost use Rattle.lines.specs.Lines.{comment, continued};
-ghost use Rattle.lines.specs.LineSteps.{lineLength};
+ghost use Rattle.lines.specs.LineSteps.{line_length};
 
 use crate::bytes::trim_start;
 
 // The offset of the first LF from `at` on, or the file's end.
 pub fn line_end(file: &[u8], at: usize) -> usize
-    ensures { result ≡ at + lineLength (drop at file.now) }
+    ensures { result ≡ at + line_length (drop at file.now) }
 {
     let mut i = at;
     while i < file.len() {

@@ -1,13 +1,13 @@
 // UTF-8, by the rows of RFC 3629, section 4.
 ghost use Rattle.std.specs.Prelude.{◌≡◌, [], ◌∷◌};
-ghost use Rattle.lines.specs.Utf8.{range, tail, longestStart};
-ghost use Rattle.lines.specs.CharSteps.{inAt, lengthBy, longLength, charLength};
+ghost use Rattle.lines.specs.Utf8.{range, tail, longest_start};
+ghost use Rattle.lines.specs.CharSteps.{in_at, length_by, long_length, char_length};
 
 use crate::bytes::is_between;
 
 // The byte at `at` is there, and from `low` to `high`.
 fn in_range(text: &[u8], at: usize, low: u8, high: u8) -> bool
-    ensures { result ≡ inAt (range low high) at text.now }
+    ensures { result ≡ in_at (range low high) at text.now }
 {
     if text.len() <= at {
         return false;
@@ -17,7 +17,7 @@ fn in_range(text: &[u8], at: usize, low: u8, high: u8) -> bool
 
 // The length of a character of two bytes, by its second byte; 0 where that is missing or wrong.
 fn two(text: &[u8]) -> usize
-    ensures { result ≡ lengthBy (tail ∷ []) text.now }
+    ensures { result ≡ length_by (tail ∷ []) text.now }
 {
     if in_range(text, 1, 0x80, 0xBF) {
         return 2;
@@ -27,7 +27,7 @@ fn two(text: &[u8]) -> usize
 
 // The same for three bytes; the second byte is from `low` to `high`.
 fn three(text: &[u8], low: u8, high: u8) -> usize
-    ensures { result ≡ lengthBy (range low high ∷ tail ∷ []) text.now }
+    ensures { result ≡ length_by (range low high ∷ tail ∷ []) text.now }
 {
     if in_range(text, 1, low, high) {
         if in_range(text, 2, 0x80, 0xBF) {
@@ -39,7 +39,7 @@ fn three(text: &[u8], low: u8, high: u8) -> usize
 
 // The same for four bytes.
 fn four(text: &[u8], low: u8, high: u8) -> usize
-    ensures { result ≡ lengthBy (range low high ∷ tail ∷ tail ∷ []) text.now }
+    ensures { result ≡ length_by (range low high ∷ tail ∷ tail ∷ []) text.now }
 {
     if in_range(text, 1, low, high) {
         if in_range(text, 2, 0x80, 0xBF) {
@@ -53,7 +53,7 @@ fn four(text: &[u8], low: u8, high: u8) -> usize
 
 // The length of the character of two to four bytes at the start, 0 where none stands there: one test for each row.
 pub fn long_length(text: &[u8]) -> usize
-    ensures { result ≡ longLength text.now }
+    ensures { result ≡ long_length text.now }
 {
     if in_range(text, 0, 0xC2, 0xDF) {
         return two(text);
@@ -84,7 +84,7 @@ pub fn long_length(text: &[u8]) -> usize
 
 // The length of the character at the start, 0 where none stands there.
 fn char_length(text: &[u8]) -> usize
-    ensures { result ≡ charLength text.now }
+    ensures { result ≡ char_length text.now }
 {
     if in_range(text, 0, 0x00, 0x7F) {
         return 1;
@@ -94,7 +94,7 @@ fn char_length(text: &[u8]) -> usize
 
 // The length of the longest well-formed start.
 pub fn well_formed_length(text: &[u8]) -> usize
-    ensures { result ≡ longestStart text.now }
+    ensures { result ≡ longest_start text.now }
 {
     let mut i = 0;
     while i < text.len() {

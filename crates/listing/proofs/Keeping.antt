@@ -12,10 +12,10 @@ pub kept_next : (v : ℕ) (b : Bytes) (i : ℕ) → i < length b → get_or b i 
 unfolding kept all
 kept_next v b i h e = rw (opened b i h, eq-eqb (get_or b i 0) v e)
 
-pub kept-not : (v : ℕ) (b : Bytes) (i : ℕ) → i < length b → (get_or b i 0 ≡ v → ⊥) → kept v b i ≡ false
+pub kept_not : (v : ℕ) (b : Bytes) (i : ℕ) → i < length b → (get_or b i 0 ≡ v → ⊥) → kept v b i ≡ false
 unfolding kept all
-kept-not v b i h n = rw (opened b i h, ne_eqb (get_or b i 0) v n)
+kept_not v b i h n = rw (opened b i h, ne_eqb (get_or b i 0) v n)
 
-pub kept-end : (v : ℕ) (b : Bytes) (i : ℕ) → length b ≤ i → kept v b i ≡ true
+pub kept_end : (v : ℕ) (b : Bytes) (i : ℕ) → length b ≤ i → kept v b i ≡ true
 unfolding kept all
-kept-end v b i h = rw (drop_of_length-le b {i = i} h)
+kept_end v b i h = rw (drop_of_length-le b {i = i} h)

@@ -8,9 +8,9 @@ abbrev pub fits : Bytes → Bytes → ℕ → Bytes → Bool
 fits buffer head at tail = leb (length head) at && leb (at + length tail) (length buffer)
 
 -- how long the text is, 0 where it does not fit
-unfoldable pub lengthIn : Bytes → Bytes → ℕ → Bytes → ℕ
-lengthIn buffer head at tail = cond (fits buffer head at tail) (at + length tail) 0
+unfoldable pub length_in : Bytes → Bytes → ℕ → Bytes → ℕ
+length_in buffer head at tail = cond (fits buffer head at tail) (at + length tail) 0
 
 -- the buffer with the text, and as it was where it does not fit
-unfoldable pub laidIn : Bytes → Bytes → ℕ → Bytes → Bytes
-laidIn buffer head at tail = cond (fits buffer head at tail) (put (put buffer 0 head) at tail) buffer
+unfoldable pub laid_in : Bytes → Bytes → ℕ → Bytes → Bytes
+laid_in buffer head at tail = cond (fits buffer head at tail) (put (put buffer 0 head) at tail) buffer

@@ -1,7 +1,7 @@
 // Reads the lines of cases, and what a line is made of: numbers, and bytes in square brackets.
 ghost use Rattle.std.specs.Prelude.{◌≡◌, ◌≤◌, ◌<◌, ◌-◌, ◌||◌, eqb, length, take, drop, get_or};
-ghost use Rattle.lines.specs.Bytes.{isLF};
-ghost use Rattle.lines.specs.LineSteps.{lineLength};
+ghost use Rattle.lines.specs.Bytes.{is_lf};
+ghost use Rattle.lines.specs.LineSteps.{line_length};
 
 use crate::show;
 
@@ -9,7 +9,7 @@ use crate::show;
 
 // How many bytes stand before the first LF, all of them where there is none.
 fn line_length(text: &[u8]) -> usize
-    ensures { result ≡ lineLength text.now }
+    ensures { result ≡ line_length text.now }
 {
     let mut i = 0;
     while i < text.len() {
@@ -40,14 +40,14 @@ pub fn behind(text: &[u8], n: usize) -> &[u8]
 
 // Whether a line starts at an index.
 pub fn starts_line(text: &[u8], at: usize) -> bool
-    ensures { result ≡ (eqb at 0 || isLF (get_or text.now (at - 1) 0)) }
+    ensures { result ≡ (eqb at 0 || is_lf (get_or text.now (at - 1) 0)) }
 {
     at == 0 || byte_at(text, at - 1) == b'\n'
 }
 
 // The bytes from an index on, up to the first LF.
 pub fn line_at(text: &[u8], at: usize) -> &[u8]
-    ensures { result.now ≡ take (lineLength (drop at text.now)) (drop at text.now) }
+    ensures { result.now ≡ take (line_length (drop at text.now)) (drop at text.now) }
 {
     let rest = behind(text, at);
     show::front(rest, line_length(rest))

@@ -1,6 +1,6 @@
 // Texts made of a head, a run of one byte, and a tail.
 ghost use Rattle.std.specs.Prelude.{◌≡◌, ◌+◌, ◌≤◌, length};
-ghost use Rattle.listing.specs.Texts.{lengthIn, laidIn};
+ghost use Rattle.listing.specs.Texts.{length_in, laid_in};
 
 use crate::{print, print_number};
 use libc::STDOUT_FILENO;
@@ -23,8 +23,8 @@ pub fn print_run(head: &[u8], byte: u8, count: usize, tail: &[u8]) {
 // Lays a head at the start of a buffer and a tail from an index on, and answers where the tail ends. Where they do
 // not fit, nothing changes and the answer is 0.
 pub fn lay(buffer: &mut [u8], head: &[u8], at: usize, tail: &[u8]) -> usize
-    ensures answer { result ≡ lengthIn buffer.old head.now at tail.now }
-    ensures held { buffer.new ≡ laidIn buffer.old head.now at tail.now }
+    ensures answer { result ≡ length_in buffer.old head.now at tail.now }
+    ensures held { buffer.new ≡ laid_in buffer.old head.now at tail.now }
     ensures inside { result ≤ length buffer.new }
 {
     if at < head.len() {
@@ -43,8 +43,8 @@ pub fn lay(buffer: &mut [u8], head: &[u8], at: usize, tail: &[u8]) -> usize
 
 // The same, with `count` bytes between them.
 pub fn lay_apart(buffer: &mut [u8], head: &[u8], count: usize, tail: &[u8]) -> usize
-    ensures answer { result ≡ lengthIn buffer.old head.now (length head.now + count) tail.now }
-    ensures held { buffer.new ≡ laidIn buffer.old head.now (length head.now + count) tail.now }
+    ensures answer { result ≡ length_in buffer.old head.now (length head.now + count) tail.now }
+    ensures held { buffer.new ≡ laid_in buffer.old head.now (length head.now + count) tail.now }
     ensures inside { result ≤ length buffer.new }
 {
     if buffer.len() < head.len() {

@@ -1,30 +1,30 @@
 -- The laws that specs/Laws.antt states, each by the module that proves it.
 use Rattle.lookup.specs.Laws.{TableMeans, TableCounts, FirstMeans, LastMeans, NoneMeans, FoundIsEntry, PartIsValue, ReadDecodes}
-use Rattle.lookup.proofs.Soundness.{table-means, table-counts}
-use Rattle.lookup.proofs.Meanings.{first-means, last-means, none-means, found-is-entry}
-use Rattle.lookup.proofs.Calls.{part-is-value}
-use Rattle.lookup.proofs.ReadBack.{read-decodes}
+use Rattle.lookup.proofs.Soundness.{table_means, table_counts}
+use Rattle.lookup.proofs.Meanings.{first_means, last_means, none_means, found_is_entry}
+use Rattle.lookup.proofs.Calls.{part_is_value}
+use Rattle.lookup.proofs.ReadBack.{read_decodes}
 
-pub tables-are-sound : TableMeans
-tables-are-sound = table-means
+pub tables_are_sound : TableMeans
+tables_are_sound = table_means
 
-pub counts-are-kept : TableCounts
-counts-are-kept = table-counts
+pub counts_are_kept : TableCounts
+counts_are_kept = table_counts
 
-pub first-is-first : FirstMeans
-first-is-first = first-means
+pub first_is_first : FirstMeans
+first_is_first = first_means
 
-pub last-is-last : LastMeans
-last-is-last = last-means
+pub last_is_last : LastMeans
+last_is_last = last_means
 
-pub none-is-none : NoneMeans
-none-is-none = none-means
+pub none_is_none : NoneMeans
+none_is_none = none_means
 
-pub found-are-entries : FoundIsEntry
-found-are-entries = found-is-entry
+pub found_are_entries : FoundIsEntry
+found_are_entries = found_is_entry
 
-pub parts-are-values : PartIsValue
-parts-are-values = part-is-value
+pub parts_are_values : PartIsValue
+parts_are_values = part_is_value
 
-pub tables-decode : ReadDecodes
-tables-decode = read-decodes
+pub tables_decode : ReadDecodes
+tables_decode = read_decodes

@@ -11,15 +11,15 @@ use Rattle.lines.specs.Bytes.{Bytes}
 use Rattle.lines.specs.Answers.{accepted}
 use Rattle.lines.proofs.Bools.{by_cases, clash}
 use Rattle.table.specs.Tables.{Entry}
-use Rattle.lookup.specs.Decoding.{Decoded, tableIn}
-use Rattle.lookup.specs.Questions.{isEntry, indexesFrom, first_of, last_of, asked, value_at, onTable, orMissing, indexIn, valueIn}
+use Rattle.lookup.specs.Decoding.{Decoded, table_in}
+use Rattle.lookup.specs.Questions.{is_entry, indexes_from, first_of, last_of, asked, value_at, on_table, or_missing, index_in, value_in}
 use Rattle.lookup.specs.Laws.{NoneOf, Stands, FirstMeans, LastMeans, NoneMeans, FoundEntry, FoundIsEntry}
 use Rattle.lookup.specs.declared.search.Which.{Which}
 use Rattle.lookup.specs.declared.search.Which.TheVariants.{First, Last}
 use Rattle.lookup.proofs.Decoded.{nothing-there}
 
-not-empty : {X : Type 0} (a : ℕ) (l : List ℕ) → a ∷ l ≡ [] → X
-not-empty a l e = let z : suc (length l) ≡ 0 = ap length e in absurd (omega arith)
+not_empty : {X : Type 0} (a : ℕ) (l : List ℕ) → a ∷ l ≡ [] → X
+not_empty a l e = let z : suc (length l) ≡ 0 = ap length e in absurd (omega arith)
 
 -- an entry whose index counts from a
 record Counted (ns : List Bytes) (x k : Bytes) (es : List Entry) (a i : ℕ) : Type 0 where
@@ -28,22 +28,22 @@ record Counted (ns : List Bytes) (x k : Bytes) (es : List Entry) (a i : ℕ) : T
   back : List Entry
   list : es ≡ front ++ entry ∷ back
   index : i ≡ a + length front
-  is_one : isEntry ns x k entry ≡ true
+  is_one : is_entry ns x k entry ≡ true
 
 module _ (ns : List Bytes) (x k : Bytes) where
   -- ---- none
 
   -- no index, no entry
-  none_of : (es : List Entry) (a : ℕ) → indexesFrom a ns x k es ≡ [] → NoneOf ns x k es
-  unfolding indexesFrom
+  none_of : (es : List Entry) (a : ℕ) → indexes_from a ns x k es ≡ [] → NoneOf ns x k es
+  unfolding indexes_from
   none_of [] a e = tt
   none_of (f ∷ es) a e =
-      by_cases (isEntry ns x k f)
-      (λ q. not-empty a (indexesFrom (suc a) ns x k es) (rw q at e))
+      by_cases (is_entry ns x k f)
+      (λ q. not_empty a (indexes_from (suc a) ns x k es) (rw q at e))
       (λ q. (q, none_of es (suc a) (rw q at e)))
 
-  no_index : (es : List Entry) (a : ℕ) → NoneOf ns x k es → indexesFrom a ns x k es ≡ []
-  unfolding indexesFrom
+  no_index : (es : List Entry) (a : ℕ) → NoneOf ns x k es → indexes_from a ns x k es ≡ []
+  unfolding indexes_from
   no_index [] a h = refl
   no_index (f ∷ es) a h = rw h.0 (no_index es (suc a) h.1)
 
@@ -59,38 +59,38 @@ module _ (ns : List Bytes) (x k : Bytes) where
     is_one = s.is_one;
   }
 
-  at_front : (f : Entry) (es : List Entry) (a i : ℕ) → isEntry ns x k f ≡ true → some a ≡ some i → Counted ns x k (f ∷ es) a i
+  at_front : (f : Entry) (es : List Entry) (a i : ℕ) → is_entry ns x k f ≡ true → some a ≡ some i → Counted ns x k (f ∷ es) a i
   at_front f es a i q e = record { front = []; entry = f; back = es; list = refl; index = let z : a ≡ i = cc e in omega arith; is_one = q }
 
   -- ---- the first
 
-  first-is : (es : List Entry) (a i : ℕ) → first_of (indexesFrom a ns x k es) ≡ some i → (s : Counted ns x k es a i) × NoneOf ns x k s.front
-  unfolding indexesFrom first_of at_front further
-  first-is [] a i e = nothing-there e
-  first-is (f ∷ es) a i e =
-      by_cases (isEntry ns x k f)
+  first_is : (es : List Entry) (a i : ℕ) → first_of (indexes_from a ns x k es) ≡ some i → (s : Counted ns x k es a i) × NoneOf ns x k s.front
+  unfolding indexes_from first_of at_front further
+  first_is [] a i e = nothing-there e
+  first_is (f ∷ es) a i e =
+      by_cases (is_entry ns x k f)
       (λ q. (at_front f es a i q (rw q at e), tt))
-      (λ q. let s = first-is es (suc a) i (rw q at e) in (further f es a i s.0, (q, s.1)))
+      (λ q. let s = first_is es (suc a) i (rw q at e) in (further f es a i s.0, (q, s.1)))
 
   -- ---- the last
 
   -- by the indexes of the entries behind f
-  last_step : (f : Entry) (es : List Entry) (a i : ℕ) (js : List ℕ) → indexesFrom (suc a) ns x k es ≡ js
+  last_step : (f : Entry) (es : List Entry) (a i : ℕ) (js : List ℕ) → indexes_from (suc a) ns x k es ≡ js
       → (last_of js ≡ some i → (s : Counted ns x k es (suc a) i) × NoneOf ns x k s.back)
-      → last_of (indexesFrom a ns x k (f ∷ es)) ≡ some i → (s : Counted ns x k (f ∷ es) a i) × NoneOf ns x k s.back
-  unfolding indexesFrom last_of at_front further
+      → last_of (indexes_from a ns x k (f ∷ es)) ≡ some i → (s : Counted ns x k (f ∷ es) a i) × NoneOf ns x k s.back
+  unfolding indexes_from last_of at_front further
   last_step f es a i [] p later e =
-      by_cases (isEntry ns x k f)
+      by_cases (is_entry ns x k f)
       (λ q. (at_front f es a i q (rw (q, p) at e), none_of es (suc a) p))
       (λ q. nothing-there (rw (q, p) at e))
   last_step f es a i (j ∷ js) p later e =
-      let s = later (by_cases (isEntry ns x k f) (λ q. rw (q, p) at e) (λ q. rw (q, p) at e)) in
+      let s = later (by_cases (is_entry ns x k f) (λ q. rw (q, p) at e) (λ q. rw (q, p) at e)) in
       (further f es a i s.0, s.1)
 
-  last-is : (es : List Entry) (a i : ℕ) → last_of (indexesFrom a ns x k es) ≡ some i → (s : Counted ns x k es a i) × NoneOf ns x k s.back
-  unfolding indexesFrom last_of
-  last-is [] a i e = nothing-there e
-  last-is (f ∷ es) a i e = last_step f es a i (indexesFrom (suc a) ns x k es) refl (λ q. last-is es (suc a) i q) e
+  last_is : (es : List Entry) (a i : ℕ) → last_of (indexes_from a ns x k es) ≡ some i → (s : Counted ns x k es a i) × NoneOf ns x k s.back
+  unfolding indexes_from last_of
+  last_is [] a i e = nothing-there e
+  last_is (f ∷ es) a i e = last_step f es a i (indexes_from (suc a) ns x k es) refl (λ q. last_is es (suc a) i q) e
 
   -- ---- counted from 0
 
@@ -104,32 +104,32 @@ module _ (ns : List Bytes) (x k : Bytes) where
     is_one = s.is_one;
   }
 
-pub first-means : FirstMeans
+pub first_means : FirstMeans
 unfolding stands
-first-means ns x k es i e = let s = first-is ns x k es 0 i e in (stands ns x k es i s.0, s.1)
+first_means ns x k es i e = let s = first_is ns x k es 0 i e in (stands ns x k es i s.0, s.1)
 
-pub last-means : LastMeans
+pub last_means : LastMeans
 unfolding stands
-last-means ns x k es i e = let s = last-is ns x k es 0 i e in (stands ns x k es i s.0, s.1)
+last_means ns x k es i e = let s = last_is ns x k es 0 i e in (stands ns x k es i s.0, s.1)
 
 -- no index was asked for exactly where there is none
-none-asked : (w : Which) (is : List ℕ) → asked w is ≡ none → is ≡ []
+none_asked : (w : Which) (is : List ℕ) → asked w is ≡ none → is ≡ []
 unfolding first_of last_of
-none-asked First [] e = refl
-none-asked First (i ∷ is) e = nothing-there (sym e)
-none-asked Last [] e = refl
-none-asked Last (i ∷ []) e = nothing-there (sym e)
-none-asked Last (i ∷ j ∷ is) e = not-empty j is (none-asked Last (j ∷ is) e)
+none_asked First [] e = refl
+none_asked First (i ∷ is) e = nothing-there (sym e)
+none_asked Last [] e = refl
+none_asked Last (i ∷ []) e = nothing-there (sym e)
+none_asked Last (i ∷ j ∷ is) e = not_empty j is (none_asked Last (j ∷ is) e)
 
-asked-none : (w : Which) → asked w [] ≡ none
+asked_none : (w : Which) → asked w [] ≡ none
 unfolding first_of last_of
-asked-none First = refl
-asked-none Last = refl
+asked_none First = refl
+asked_none Last = refl
 
-pub none-means : NoneMeans
-none-means w ns x k es = (
-  λ e. none_of ns x k es 0 (none-asked w (indexesFrom 0 ns x k es) e),
-  λ h. rw (no_index ns x k es 0 h) (asked-none w),
+pub none_means : NoneMeans
+none_means w ns x k es = (
+  λ e. none_of ns x k es 0 (none_asked w (indexes_from 0 ns x k es) e),
+  λ h. rw (no_index ns x k es 0 h) (asked_none w),
 )
 
 -- ---- an entry that was found has a value
@@ -139,27 +139,27 @@ unfolding value_at
 value-between [] e back = refl
 value-between (f ∷ front) e back = value-between front e back
 
-pub value-stands : (ns : List Bytes) (x k : Bytes) (es : List Entry) (i : ℕ) (s : Stands ns x k es i) → value_at i es ≡ some s.entry.value
-value-stands ns x k es i s = rw (s.index, s.list) (value-between s.front s.entry s.back)
+pub value_stands : (ns : List Bytes) (x k : Bytes) (es : List Entry) (i : ℕ) (s : Stands ns x k es i) → value_at i es ≡ some s.entry.value
+value_stands ns x k es i s = rw (s.index, s.list) (value-between s.front s.entry s.back)
 
-pub asked-stands : (w : Which) (ns : List Bytes) (x k : Bytes) (es : List Entry) (i : ℕ) → asked w (indexesFrom 0 ns x k es) ≡ some i → Stands ns x k es i
-asked-stands First ns x k es i e = (first-means ns x k es i e).0
-asked-stands Last ns x k es i e = (last-means ns x k es i e).0
+pub asked_stands : (w : Which) (ns : List Bytes) (x k : Bytes) (es : List Entry) (i : ℕ) → asked w (indexes_from 0 ns x k es) ≡ some i → Stands ns x k es i
+asked_stands First ns x k es i e = (first_means ns x k es i e).0
+asked_stands Last ns x k es i e = (last_means ns x k es i e).0
 
 -- what is not missing
-pub some-found : {A : Type 0} (o : Option A) (x : A) → orMissing o ≡ accepted x → o ≡ some x
-unfolding orMissing
-some-found none x e = let z : ◌≡◌ {A = ℕ} 0 1 = cc e in clash z
-some-found (some y) x e = let z : y ≡ x = cc e in rw z
+pub some_found : {A : Type 0} (o : Option A) (x : A) → or_missing o ≡ accepted x → o ≡ some x
+unfolding or_missing
+some_found none x e = let z : ◌≡◌ {A = ℕ} 0 1 = cc e in clash z
+some_found (some y) x e = let z : y ≡ x = cc e in rw z
 
-pub found-is-entry : FoundIsEntry
-unfolding indexIn valueIn onTable orMissing
-found-is-entry b w x k i e = go (tableIn b) refl e
+pub found_is_entry : FoundIsEntry
+unfolding index_in value_in on_table or_missing
+found_is_entry b w x k i e = go (table_in b) refl e
   where
-    go : (o : Option Decoded) → tableIn b ≡ o
-        → onTable o (λ t. orMissing (asked w (indexesFrom 0 t.names x k t.entries))) ≡ accepted i
+    go : (o : Option Decoded) → table_in b ≡ o
+        → on_table o (λ t. or_missing (asked w (indexes_from 0 t.names x k t.entries))) ≡ accepted i
         → FoundEntry b x k i
     go none q e = let z : ◌≡◌ {A = ℕ} 0 1 = cc e in clash z
     go (some t) q e =
-        let s = asked-stands w t.names x k t.entries i (some-found (asked w (indexesFrom 0 t.names x k t.entries)) i e) in
-        record { table = t; there = q; stands = s; value = rw (q, value-stands t.names x k t.entries i s) }
+        let s = asked_stands w t.names x k t.entries i (some_found (asked w (indexes_from 0 t.names x k t.entries)) i e) in
+        record { table = t; there = q; stands = s; value = rw (q, value_stands t.names x k t.entries i s) }

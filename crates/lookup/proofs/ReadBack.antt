@@ -11,10 +11,10 @@ use lib.Seq.{take_at, drop_at}
 use borrow.Author.Tests.{le-leb, lt-ltb}
 use Rattle.lines.specs.Bytes.{Bytes}
 use Rattle.lines.specs.Laws.{All}
-use Rattle.table.specs.Tables.{Entry, Event, newSection, newEntry, names, entries}
-use Rattle.table.specs.Contents.{text_of, sectionRecord, entryRecord, recordsFrom}
-use Rattle.table.proofs.Laws.{entries-are-inside}
-use Rattle.lookup.specs.Decoding.{part, inside, followed, namesIn, entriesIn, together, tableIn}
+use Rattle.table.specs.Tables.{Entry, Event, new_section, new_entry, names, entries}
+use Rattle.table.specs.Contents.{text_of, section_record, entry_record, records_from}
+use Rattle.table.proofs.Laws.{entries_are_inside}
+use Rattle.lookup.specs.Decoding.{part, inside, followed, names_in, entries_in, together, table_in}
 use Rattle.lookup.specs.Laws.{ReadDecodes}
 
 -- ---- a part behind other bytes
@@ -23,26 +23,26 @@ module _ (p x r : Bytes) where
   part_at : part (p ++ (x ++ r)) (length p) (length x) ≡ x
   part_at = rw (drop_at p (x ++ r) (length p) refl) (take_at x r (length x) refl)
 
-  inside-at : inside (p ++ (x ++ r)) (length p) (length x) ≡ true
-  inside-at =
+  inside_at : inside (p ++ (x ++ r)) (length p) (length x) ≡ true
+  inside_at =
       le-leb (length p + length x) (length (p ++ (x ++ r)))
       (omega (arith, length-append p (x ++ r), length-append x r))
 
 -- ---- sections
 
-names-back : (es : List Event) (p r : Bytes) (more : List ℕ)
-    → namesIn (p ++ (text_of es ++ r)) (length (names es)) (recordsFrom sectionRecord (length p) es ++ more) ≡ some (names es)
-unfolding namesIn names recordsFrom text_of followed
-names-back [] p r more = refl
-names-back (newSection x ∷ es) p r more =
+names_back : (es : List Event) (p r : Bytes) (more : List ℕ)
+    → names_in (p ++ (text_of es ++ r)) (length (names es)) (records_from section_record (length p) es ++ more) ≡ some (names es)
+unfolding names_in names records_from text_of followed
+names_back [] p r more = refl
+names_back (new_section x ∷ es) p r more =
     let t : p ++ ((x ++ text_of es) ++ r) ≡ p ++ (x ++ (text_of es ++ r)) = simp append_assoc in
-    let i : namesIn (p ++ (x ++ (text_of es ++ r))) (length (names es)) (recordsFrom sectionRecord (length p + length x) es ++ more) ≡ some (names es) =
-    rw (← append_assoc p x (text_of es ++ r), ← length-append p x) (names-back es (p ++ x) r more) in
-    rw (t, part_at p x (text_of es ++ r), inside-at p x (text_of es ++ r)) (ap (followed true x) i)
-names-back (newEntry e ∷ es) p r more =
+    let i : names_in (p ++ (x ++ (text_of es ++ r))) (length (names es)) (records_from section_record (length p + length x) es ++ more) ≡ some (names es) =
+    rw (← append_assoc p x (text_of es ++ r), ← length-append p x) (names_back es (p ++ x) r more) in
+    rw (t, part_at p x (text_of es ++ r), inside_at p x (text_of es ++ r)) (ap (followed true x) i)
+names_back (new_entry e ∷ es) p r more =
     let y : Bytes = e.key ++ e.value in
     let t : p ++ ((y ++ text_of es) ++ r) ≡ (p ++ y) ++ (text_of es ++ r) = simp append_assoc in
-    rw (t, ← length-append p y) (names-back es (p ++ y) r more)
+    rw (t, ← length-append p y) (names_back es (p ++ y) r more)
 
 -- ---- entries
 
@@ -55,47 +55,47 @@ module _ (e : Entry) (p r : Bytes) where
   abbrev whole : Bytes
   whole = p ++ ((e.key ++ e.value) ++ r)
 
-  key-first : whole ≡ p ++ (e.key ++ (e.value ++ r))
-  key-first = simp append_assoc
+  key_first : whole ≡ p ++ (e.key ++ (e.value ++ r))
+  key_first = simp append_assoc
 
-  value-first : whole ≡ (p ++ e.key) ++ (e.value ++ r)
-  value-first = simp append_assoc
+  value_first : whole ≡ (p ++ e.key) ++ (e.value ++ r)
+  value_first = simp append_assoc
 
-  key-part : part whole (length p) (length e.key) ≡ e.key
-  key-part = rw key-first (part_at p e.key (e.value ++ r))
+  key_part : part whole (length p) (length e.key) ≡ e.key
+  key_part = rw key_first (part_at p e.key (e.value ++ r))
 
-  key-inside : inside whole (length p) (length e.key) ≡ true
-  key-inside = rw key-first (inside-at p e.key (e.value ++ r))
+  key_inside : inside whole (length p) (length e.key) ≡ true
+  key_inside = rw key_first (inside_at p e.key (e.value ++ r))
 
   value-part : part whole (length p + length e.key) (length e.value) ≡ e.value
-  value-part = rw (value-first, ← length-append p e.key) (part_at (p ++ e.key) e.value r)
+  value-part = rw (value_first, ← length-append p e.key) (part_at (p ++ e.key) e.value r)
 
   value-inside : inside whole (length p + length e.key) (length e.value) ≡ true
-  value-inside = rw (value-first, ← length-append p e.key) (inside-at (p ++ e.key) e.value r)
+  value-inside = rw (value_first, ← length-append p e.key) (inside_at (p ++ e.key) e.value r)
 
-entries-back : (es : List Event) (m : ℕ) (p r : Bytes) (more : List ℕ) → All (Below m) (entries es)
-    → entriesIn (p ++ (text_of es ++ r)) m (length (entries es)) (recordsFrom entryRecord (length p) es ++ more) ≡ some (entries es)
-unfolding entriesIn entries recordsFrom text_of followed
-entries-back [] m p r more h = refl
-entries-back (newSection x ∷ es) m p r more h =
+entries_back : (es : List Event) (m : ℕ) (p r : Bytes) (more : List ℕ) → All (Below m) (entries es)
+    → entries_in (p ++ (text_of es ++ r)) m (length (entries es)) (records_from entry_record (length p) es ++ more) ≡ some (entries es)
+unfolding entries_in entries records_from text_of followed
+entries_back [] m p r more h = refl
+entries_back (new_section x ∷ es) m p r more h =
     let t : p ++ ((x ++ text_of es) ++ r) ≡ (p ++ x) ++ (text_of es ++ r) = simp append_assoc in
-    rw (t, ← length-append p x) (entries-back es m (p ++ x) r more h)
-entries-back (newEntry e ∷ es) m p r more h =
+    rw (t, ← length-append p x) (entries_back es m (p ++ x) r more h)
+entries_back (new_entry e ∷ es) m p r more h =
     let y : Bytes = e.key ++ e.value in
     let t : p ++ ((y ++ text_of es) ++ r) ≡ whole e p (text_of es ++ r) = ap (λ (l : Bytes). p ++ l) (append_assoc y (text_of es) r) in
     let u : whole e p (text_of es ++ r) ≡ (p ++ y) ++ (text_of es ++ r) = sym (append_assoc p y (text_of es ++ r)) in
-    let i : entriesIn (whole e p (text_of es ++ r)) m (length (entries es)) (recordsFrom entryRecord (length p + length y) es ++ more) ≡ some (entries es) =
-    rw (u, ← length-append p y) (entries-back es m (p ++ y) r more h.1) in
-    rw (t, key-part e p (text_of es ++ r), value-part e p (text_of es ++ r), key-inside e p (text_of es ++ r), value-inside e p (text_of es ++ r), lt-ltb e.section m h.0)
+    let i : entries_in (whole e p (text_of es ++ r)) m (length (entries es)) (records_from entry_record (length p + length y) es ++ more) ≡ some (entries es) =
+    rw (u, ← length-append p y) (entries_back es m (p ++ y) r more h.1) in
+    rw (t, key_part e p (text_of es ++ r), value-part e p (text_of es ++ r), key_inside e p (text_of es ++ r), value-inside e p (text_of es ++ r), lt-ltb e.section m h.0)
     (ap (followed true e) i)
 
 -- ---- the table
 
-pub read-decodes : ReadDecodes
-unfolding tableIn together
-read-decodes f t v d e g =
+pub read_decodes : ReadDecodes
+unfolding table_in together
+read_decodes f t v d e g =
     rw (
-      names-back t.events [] (drop (length (text_of t.events)) d) (drop (length (recordsFrom sectionRecord 0 t.events)) e),
-      entries-back t.events (length (names t.events)) [] (drop (length (text_of t.events)) d) (drop (length (recordsFrom entryRecord 0 t.events)) g)
-          (entries-are-inside f t v),
+      names_back t.events [] (drop (length (text_of t.events)) d) (drop (length (records_from section_record 0 t.events)) e),
+      entries_back t.events (length (names t.events)) [] (drop (length (text_of t.events)) d) (drop (length (records_from entry_record 0 t.events)) g)
+          (entries_are_inside f t v),
     )

@@ -8,31 +8,31 @@ use mathlib.Core.List.{List}
 use lib.ListN.{length, drop, get_or}
 use borrow.Author.Tests.{le-leb, lt-ltb}
 use Rattle.lines.proofs.Bools.{both}
-use Rattle.lookup.specs.Decoding.{inside, namesIn, entriesIn, Lent, Decoded, tableIn}
-use Rattle.lookup.specs.Steps.{there, goodEntry}
+use Rattle.lookup.specs.Decoding.{inside, names_in, entries_in, Lent, Decoded, table_in}
+use Rattle.lookup.specs.Steps.{there, good_entry}
 use Rattle.lookup.specs.Laws.{Sound, TableMeans, TableCounts}
-use Rattle.lookup.proofs.Walking.{ByRecords, sections-by-records, entries-by-records}
-use Rattle.lookup.proofs.Decoded.{which-there, table-halves, name-facts, names-count, entries-count, entry-of, good_of}
+use Rattle.lookup.proofs.Walking.{ByRecords, sections_by_records, entries_by_records}
+use Rattle.lookup.proofs.Decoded.{which_there, table_halves, name_facts, names_count, entries_count, entry_of_lem, good_of}
 use Rattle.lookup.proofs.Calls.{halves}
 
 -- ---- a table that is there
 
-module _ (b : Lent) (t : Decoded) (e : tableIn b ≡ some t) where
+module _ (b : Lent) (t : Decoded) (e : table_in b ≡ some t) where
   -- the last record among the counts is there, so all are
-  two-each : (m : ℕ) → b.sectionCount ≡ m → 2 * m ≤ length b.sectionNumbers
-  two-each zero q = omega arith
-  two-each (suc m) q =
-      omega (arith, (name-facts b.sectionCount b.sectionNumbers b.text t.names (table-halves b t e).names m (omega arith)).record-there)
+  two_each : (m : ℕ) → b.section_count ≡ m → 2 * m ≤ length b.section_numbers
+  two_each zero q = omega arith
+  two_each (suc m) q =
+      omega (arith, (name_facts b.section_count b.section_numbers b.text t.names (table_halves b t e).names m (omega arith)).record_there)
 
-  five-each : (k : ℕ) → b.entryCount ≡ k → 5 * k ≤ length b.entryNumbers
-  five-each zero q = omega arith
-  five-each (suc k) q = omega (arith, (entry-of b t e k (omega arith)).record-there)
+  five_each : (k : ℕ) → b.entry_count ≡ k → 5 * k ≤ length b.entry_numbers
+  five_each zero q = omega arith
+  five_each (suc k) q = omega (arith, (entry_of_lem b t e k (omega arith)).record_there)
 
-  table-sound : Sound b
-  table-sound = record {
-    sections-there = two-each b.sectionCount refl;
-    entries-there = five-each b.entryCount refl;
-    names = λ j h. (name-facts b.sectionCount b.sectionNumbers b.text t.names (table-halves b t e).names j h).name-inside;
+  table_sound : Sound b
+  table_sound = record {
+    sections_there = two_each b.section_count refl;
+    entries_there = five_each b.entry_count refl;
+    names = λ j h. (name_facts b.section_count b.section_numbers b.text t.names (table_halves b t e).names j h).name_inside;
     sections = λ i h. (good_of b t e i h).section;
     keys = λ i h. (good_of b t e i h).key;
     values = λ i h. (good_of b t e i h).value;
@@ -61,32 +61,32 @@ run-all (suc m) j ns w good start next h = (
 )
 
 module _ (b : Lent) (s : Sound b) where
-  names-there : there (namesIn b.text b.sectionCount b.sectionNumbers) ≡ true
+  names-there : there (names_in b.text b.section_count b.section_numbers) ≡ true
   names-there =
-      run-there b.sectionCount 0 b.sectionNumbers 2 _ _ (sections-by-records b.text b.sectionNumbers)
-      (run-all b.sectionCount 0 b.sectionNumbers 2 (λ at. inside b.text (get_or b.sectionNumbers at 0) (get_or b.sectionNumbers (at + 1) 0))
+      run-there b.section_count 0 b.section_numbers 2 _ _ (sections_by_records b.text b.section_numbers)
+      (run-all b.section_count 0 b.section_numbers 2 (λ at. inside b.text (get_or b.section_numbers at 0) (get_or b.section_numbers (at + 1) 0))
       (λ i. 2 * i) (λ i. omega arith)
-      (λ i h. (omega (arith, s.sections-there), le-leb _ _ (s.names i (omega arith)))))
+      (λ i h. (omega (arith, s.sections_there), le-leb _ _ (s.names i (omega arith)))))
 
-  entries-there : there (entriesIn b.text b.sectionCount b.entryCount b.entryNumbers) ≡ true
-  entries-there =
-      run-there b.entryCount 0 b.entryNumbers 5 _ _ (entries-by-records b.text b.sectionCount b.entryNumbers)
-      (run-all b.entryCount 0 b.entryNumbers 5 (goodEntry b.text b.sectionCount b.entryNumbers)
+  entries_there : there (entries_in b.text b.section_count b.entry_count b.entry_numbers) ≡ true
+  entries_there =
+      run-there b.entry_count 0 b.entry_numbers 5 _ _ (entries_by_records b.text b.section_count b.entry_numbers)
+      (run-all b.entry_count 0 b.entry_numbers 5 (good_entry b.text b.section_count b.entry_numbers)
       (λ i. 5 * i) (λ i. omega arith)
-      (λ i h. (omega (arith, s.entries-there), good i (omega arith))))
+      (λ i h. (omega (arith, s.entries_there), good i (omega arith))))
     where
-      good : (i : ℕ) → i < b.entryCount → goodEntry b.text b.sectionCount b.entryNumbers (5 * i) ≡ true
+      good : (i : ℕ) → i < b.entry_count → good_entry b.text b.section_count b.entry_numbers (5 * i) ≡ true
       good i h = rw (lt-ltb _ _ (s.sections i h), le-leb _ _ (s.keys i h), le-leb _ _ (s.values i h))
 
-pub table-means : TableMeans
-table-means b = (
-  λ t e. table-sound b t e,
-  λ s. which-there (tableIn b) (halves b ∙ both _ _ (names-there b s) (entries-there b s)),
+pub table_means : TableMeans
+table_means b = (
+  λ t e. table_sound b t e,
+  λ s. which_there (table_in b) (halves b ∙ both _ _ (names-there b s) (entries_there b s)),
 )
 
-pub table-counts : TableCounts
-table-counts b t e =
-    let h = table-halves b t e in (
-      names-count b.sectionCount b.sectionNumbers b.text t.names h.names,
-      entries-count b.entryCount b.entryNumbers b.text b.sectionCount t.entries h.entries,
+pub table_counts : TableCounts
+table_counts b t e =
+    let h = table_halves b t e in (
+      names_count b.section_count b.section_numbers b.text t.names h.names,
+      entries_count b.entry_count b.entry_numbers b.text b.section_count t.entries h.entries,
     )

@@ -12,8 +12,8 @@ use lib.Dec.{leb}
 use borrow.Author.Tests.{le-leb, lt-leb, leb-true, leb-false, lt-ltb, le-ltb}
 use Rattle.lines.specs.Bytes.{Bytes}
 use Rattle.lines.proofs.Bools.{by_cases}
-use Rattle.lookup.specs.Decoding.{part, inside, followed, namesIn, entriesIn}
-use Rattle.lookup.specs.Steps.{there, goodEntry, entry_of}
+use Rattle.lookup.specs.Decoding.{part, inside, followed, names_in, entries_in}
+use Rattle.lookup.specs.Steps.{there, good_entry, entry_of}
 
 -- ---- a test over records
 
@@ -40,15 +40,15 @@ module _ (ns : List ℕ) (w : ℕ) (f : ℕ → List ℕ → Bool) (good : ℕ �
         let e : left ≡ suc (left - 1) = omega arith in
         ap (λ (n : ℕ). f n (drop at ns)) e
 
-    pub walked-short : 0 < left → length ns - at < w → false ≡ f count ns
-    walked-short l s = sym (h.1 ∙ one l ∙ r.short (left - 1) (drop at ns) (omega (arith, length-drop at ns)))
+    pub walked_short : 0 < left → length ns - at < w → false ≡ f count ns
+    walked_short l s = sym (h.1 ∙ one l ∙ r.short (left - 1) (drop at ns) (omega (arith, length-drop at ns)))
 
     module _ (l : 0 < left) (m : at + w ≤ length ns) where
-      pub walked-bad : good at ≡ false → false ≡ f count ns
-      walked-bad e = sym (h.1 ∙ one l ∙ r.more (left - 1) at m ∙ rw e)
+      pub walked_bad : good at ≡ false → false ≡ f count ns
+      walked_bad e = sym (h.1 ∙ one l ∙ r.more (left - 1) at m ∙ rw e)
 
-      pub walked-good : good at ≡ true → Walked ns f count (at + w) (left - 1)
-      walked-good e = (m, h.1 ∙ one l ∙ r.more (left - 1) at m ∙ rw e)
+      pub walked_good : good at ≡ true → Walked ns f count (at + w) (left - 1)
+      walked_good e = (m, h.1 ∙ one l ∙ r.more (left - 1) at m ∙ rw e)
 
 -- ---- a part inside the text
 
@@ -73,56 +73,56 @@ next ns at k h =
     let e : suc (at + k) ≡ at + suc k = omega arith in
     rw (← e) (drop-cons ns (at + k) 0 h)
 
-pub two-there : (ns : List ℕ) (at : ℕ) → at + 2 ≤ length ns → drop at ns ≡ get_or ns at 0 ∷ get_or ns (at + 1) 0 ∷ drop (at + 2) ns
-two-there ns at h =
+pub two_there : (ns : List ℕ) (at : ℕ) → at + 2 ≤ length ns → drop at ns ≡ get_or ns at 0 ∷ get_or ns (at + 1) 0 ∷ drop (at + 2) ns
+two_there ns at h =
     let e : suc at ≡ at + 1 = omega arith in
     drop-cons ns at 0 (omega arith) ∙ ap (λ (l : List ℕ). get_or ns at 0 ∷ l) (rw e (next ns at 1 (omega arith)))
 
-pub five-there : (ns : List ℕ) (at : ℕ) → at + 5 ≤ length ns
+pub five_there : (ns : List ℕ) (at : ℕ) → at + 5 ≤ length ns
     → drop at ns ≡ get_or ns at 0 ∷ get_or ns (at + 1) 0 ∷ get_or ns (at + 2) 0 ∷ get_or ns (at + 3) 0 ∷ get_or ns (at + 4) 0 ∷ drop (at + 5) ns
-five-there ns at h =
-    rw (two-there ns at (omega arith), next ns at 2 (omega arith), next ns at 3 (omega arith), next ns at 4 (omega arith))
+five_there ns at h =
+    rw (two_there ns at (omega arith), next ns at 2 (omega arith), next ns at 3 (omega arith), next ns at 4 (omega arith))
 
 -- an entry's record, as the code tests it
 module _ (text : Bytes) (m : ℕ) (ns : List ℕ) (at : ℕ) where
-  pub entry-bad-section : m ≤ get_or ns at 0 → false ≡ goodEntry text m ns at
-  entry-bad-section h = rw (le-ltb (get_or ns at 0) m h)
+  pub entry_bad_section : m ≤ get_or ns at 0 → false ≡ good_entry text m ns at
+  entry_bad_section h = rw (le-ltb (get_or ns at 0) m h)
 
   module _ (h : get_or ns at 0 < m) where
-    pub entry-bad-key : inside text (get_or ns (at + 1) 0) (get_or ns (at + 2) 0) ≡ false → false ≡ goodEntry text m ns at
-    entry-bad-key e = rw (lt-ltb (get_or ns at 0) m h, e)
+    pub entry_bad_key : inside text (get_or ns (at + 1) 0) (get_or ns (at + 2) 0) ≡ false → false ≡ good_entry text m ns at
+    entry_bad_key e = rw (lt-ltb (get_or ns at 0) m h, e)
 
-    pub entry-by-value : inside text (get_or ns (at + 1) 0) (get_or ns (at + 2) 0) ≡ true
-        → (r : Bool) → r ≡ inside text (get_or ns (at + 3) 0) (get_or ns (at + 4) 0) → r ≡ goodEntry text m ns at
-    entry-by-value e r q = q ∙ rw (lt-ltb (get_or ns at 0) m h, e)
+    pub entry_by_value : inside text (get_or ns (at + 1) 0) (get_or ns (at + 2) 0) ≡ true
+        → (r : Bool) → r ≡ inside text (get_or ns (at + 3) 0) (get_or ns (at + 4) 0) → r ≡ good_entry text m ns at
+    entry_by_value e r q = q ∙ rw (lt-ltb (get_or ns at 0) m h, e)
 
-pub sections-by-records : (text : Bytes) (ns : List ℕ)
-    → ByRecords ns 2 (λ m l. there (namesIn text m l)) (λ at. inside text (get_or ns at 0) (get_or ns (at + 1) 0))
-unfolding namesIn
-sections-by-records text ns = record {
+pub sections_by_records : (text : Bytes) (ns : List ℕ)
+    → ByRecords ns 2 (λ m l. there (names_in text m l)) (λ at. inside text (get_or ns at 0) (get_or ns (at + 1) 0))
+unfolding names_in
+sections_by_records text ns = record {
   nothing = λ l. refl;
   short = short;
   more = λ m at h.
-      rw (two-there ns at h)
-      (there-followed (inside text (get_or ns at 0) (get_or ns (at + 1) 0)) (part text (get_or ns at 0) (get_or ns (at + 1) 0)) (namesIn text m (drop (at + 2) ns)));
+      rw (two_there ns at h)
+      (there-followed (inside text (get_or ns at 0) (get_or ns (at + 1) 0)) (part text (get_or ns at 0) (get_or ns (at + 1) 0)) (names_in text m (drop (at + 2) ns)));
 }
   where
-    short : (m : ℕ) (l : List ℕ) → length l < 2 → there (namesIn text (suc m) l) ≡ false
+    short : (m : ℕ) (l : List ℕ) → length l < 2 → there (names_in text (suc m) l) ≡ false
     short m [] h = refl
     short m (a ∷ []) h = refl
     short m (a ∷ n ∷ l) h = absurd (omega arith)
 
-pub entries-by-records : (text : Bytes) (count : ℕ) (ns : List ℕ)
-    → ByRecords ns 5 (λ m l. there (entriesIn text count m l)) (goodEntry text count ns)
-unfolding entriesIn
-entries-by-records text count ns = record {
+pub entries_by_records : (text : Bytes) (count : ℕ) (ns : List ℕ)
+    → ByRecords ns 5 (λ m l. there (entries_in text count m l)) (good_entry text count ns)
+unfolding entries_in
+entries_by_records text count ns = record {
   nothing = λ l. refl;
   short = short;
   more = λ m at h.
-      rw (five-there ns at h) (there-followed (goodEntry text count ns at) (entry_of text ns at) (entriesIn text count m (drop (at + 5) ns)));
+      rw (five_there ns at h) (there-followed (good_entry text count ns at) (entry_of text ns at) (entries_in text count m (drop (at + 5) ns)));
 }
   where
-    short : (m : ℕ) (l : List ℕ) → length l < 5 → there (entriesIn text count (suc m) l) ≡ false
+    short : (m : ℕ) (l : List ℕ) → length l < 5 → there (entries_in text count (suc m) l) ≡ false
     short m [] h = refl
     short m (i ∷ []) h = refl
     short m (i ∷ a ∷ []) h = refl

@@ -3,7 +3,7 @@ use Rattle.std.specs.Prelude.{◌≡◌, ℕ, ◌+◌, []}
 use Rattle.lines.specs.Bytes.{Bytes}
 use Rattle.lines.specs.Answers.{Outcome, accepted, refused}
 use Rattle.lookup.specs.Decoding.{Lent}
-use Rattle.lookup.specs.Questions.{Part, valueIn, partIn}
+use Rattle.lookup.specs.Questions.{Part, value_in, part_in}
 use Rattle.lookup.specs.declared.error.Error.{Error}
 use Rattle.lookup.specs.declared.error.Error.TheVariants.{NoEntry, FaultyRecord}
 use Rattle.lookup.specs.declared.search.FindAnswer.{FindAnswer}
@@ -24,37 +24,37 @@ place_of NoEntry = 0
 place_of FaultyRecord = 0
 
 -- an error is a refusal
-abbrev pub errorMeans : {A : Type 0} → Error → Outcome A
-errorMeans e = refused (number_of e) (place_of e)
+abbrev pub error_means : {A : Type 0} → Error → Outcome A
+error_means e = refused (number_of e) (place_of e)
 
 -- ---- answers
 
 -- what the answer of `find` means: an index
-abbrev pub findMeans : FindAnswer → Outcome ℕ
-findMeans (Found i) = accepted i
-findMeans (FindRefused e) = errorMeans e
+abbrev pub find_means : FindAnswer → Outcome ℕ
+find_means (Found i) = accepted i
+find_means (FindRefused e) = error_means e
 
 -- what the answer of `value_check` means: a part of the text
-abbrev pub valueMeans : ValueAnswer → Outcome Part
-valueMeans (Accepted a n) = accepted (record { start = a; size = n })
-valueMeans (ValueRefused e) = errorMeans e
+abbrev pub value_means : ValueAnswer → Outcome Part
+value_means (Accepted a n) = accepted (record { start = a; size = n })
+value_means (ValueRefused e) = error_means e
 
 -- ---- the part that `value` hands back
 
 -- the value, no bytes where there is none
-abbrev pub bytesOr : Outcome Bytes → Bytes
-bytesOr (accepted v) = v
-bytesOr (refused n p) = []
+abbrev pub bytes_or : Outcome Bytes → Bytes
+bytes_or (accepted v) = v
+bytes_or (refused n p) = []
 
 -- its part of the text, the part of length 0 at the start where there is none
-abbrev pub partOr : Outcome Part → Part
-partOr (accepted p) = p
-partOr (refused n p) = record { start = 0; size = 0 }
+abbrev pub part_or : Outcome Part → Part
+part_or (accepted p) = p
+part_or (refused n p) = record { start = 0; size = 0 }
 
 -- The promise of `value`: the bytes of the entry's value, and they are a part of the text buffer itself; where there is
 -- none, the part of length 0 at its start. A slice lies in a block of memory from an offset on: `textAt` is where the lent
 -- text lies, and `result_at` where the slice handed back does.
 pub record HandsBack (b : Lent) (i : ℕ) (textAt result_at : ℕ × ℕ) (r : Bytes) : Type 0 where
-  pub bytes : r ≡ bytesOr (valueIn b i)
+  pub bytes : r ≡ bytes_or (value_in b i)
   pub block : result_at.0 ≡ textAt.0
-  pub offset : result_at.1 ≡ textAt.1 + (partOr (partIn b i)).start
+  pub offset : result_at.1 ≡ textAt.1 + (part_or (part_in b i)).start

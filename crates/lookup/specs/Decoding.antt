@@ -2,7 +2,7 @@
 use Rattle.std.specs.Prelude.{ℕ, zero, suc, ◌+◌, Bool, true, false, ◌&&◌, List, [], ◌∷◌, length, take, drop, leb, ltb}
 use Rattle.std.proofs.Math.Option.{Option, none, some}
 use Rattle.lines.specs.Bytes.{Bytes}
-use Rattle.table.specs.Tables.{Entry, entryIn}
+use Rattle.table.specs.Tables.{Entry, entry_in}
 
 -- ---- parts of the text
 
@@ -24,26 +24,26 @@ followed true x (some xs) = some (x ∷ xs)
 
 -- The names of m sections, from two numbers each: start and length of the name. A record is faulty that points outside
 -- the text; and the numbers may not end before the count does.
-unfoldable pub namesIn : Bytes → (m : ℕ) → List ℕ → Option (List Bytes)
+unfoldable pub names_in : Bytes → (m : ℕ) → List ℕ → Option (List Bytes)
 unfolding followed
-namesIn text zero ns = some []
-namesIn text (suc m) [] = none
-namesIn text (suc m) (a ∷ []) = none
-namesIn text (suc m) (a ∷ n ∷ ns) = followed (inside text a n) (part text a n) (namesIn text m ns)
+names_in text zero ns = some []
+names_in text (suc m) [] = none
+names_in text (suc m) (a ∷ []) = none
+names_in text (suc m) (a ∷ n ∷ ns) = followed (inside text a n) (part text a n) (names_in text m ns)
 
 -- k entries of a table of m sections, from five numbers each: section index, start and length of the key, start and
 -- length of the value (the rules' joined text). A record is faulty that points outside the text or past the section
 -- count; and the numbers may not end before the count does.
-unfoldable pub entriesIn : Bytes → (m k : ℕ) → List ℕ → Option (List Entry)
+unfoldable pub entries_in : Bytes → (m k : ℕ) → List ℕ → Option (List Entry)
 unfolding followed
-entriesIn text m zero ns = some []
-entriesIn text m (suc k) [] = none
-entriesIn text m (suc k) (i ∷ []) = none
-entriesIn text m (suc k) (i ∷ a ∷ []) = none
-entriesIn text m (suc k) (i ∷ a ∷ n ∷ []) = none
-entriesIn text m (suc k) (i ∷ a ∷ n ∷ b ∷ []) = none
-entriesIn text m (suc k) (i ∷ a ∷ n ∷ b ∷ l ∷ ns) =
-    followed (ltb i m && (inside text a n && inside text b l)) (entryIn i (part text a n) (part text b l)) (entriesIn text m k ns)
+entries_in text m zero ns = some []
+entries_in text m (suc k) [] = none
+entries_in text m (suc k) (i ∷ []) = none
+entries_in text m (suc k) (i ∷ a ∷ []) = none
+entries_in text m (suc k) (i ∷ a ∷ n ∷ []) = none
+entries_in text m (suc k) (i ∷ a ∷ n ∷ b ∷ []) = none
+entries_in text m (suc k) (i ∷ a ∷ n ∷ b ∷ l ∷ ns) =
+    followed (ltb i m && (inside text a n && inside text b l)) (entry_in i (part text a n) (part text b l)) (entries_in text m k ns)
 
 -- ---- tables
 
@@ -51,13 +51,13 @@ entriesIn text m (suc k) (i ∷ a ∷ n ∷ b ∷ l ∷ ns) =
 -- to be read alone (`&`), so that no call changes them
 pub record Lent : Type 0 where
   pub text : Bytes
-  pub sectionNumbers : List ℕ
-  pub sectionCount : ℕ
-  pub entryNumbers : List ℕ
-  pub entryCount : ℕ
+  pub section_numbers : List ℕ
+  pub section_count : ℕ
+  pub entry_numbers : List ℕ
+  pub entry_count : ℕ
 
 abbrev pub lent : Bytes → List ℕ → ℕ → List ℕ → ℕ → Lent
-lent text sections m entries k = record { text = text; sectionNumbers = sections; sectionCount = m; entryNumbers = entries; entryCount = k }
+lent text sections m entries k = record { text = text; section_numbers = sections; section_count = m; entry_numbers = entries; entry_count = k }
 
 -- a table: the sections' names and the entries, each in the order of their indexes
 pub record Decoded : Type 0 where
@@ -71,9 +71,9 @@ together (some ns) none = none
 together (some ns) (some es) = some (record { names = ns; entries = es })
 
 -- the table that is lent; none where a record among the counts is faulty, or a count passes its buffer
-unfoldable pub tableIn : Lent → Option Decoded
-unfolding namesIn entriesIn together
-tableIn b =
+unfoldable pub table_in : Lent → Option Decoded
+unfolding names_in entries_in together
+table_in b =
     together
-    (namesIn b.text b.sectionCount b.sectionNumbers)
-    (entriesIn b.text b.sectionCount b.entryCount b.entryNumbers)
+    (names_in b.text b.section_count b.section_numbers)
+    (entries_in b.text b.section_count b.entry_count b.entry_numbers)

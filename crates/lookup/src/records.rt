@@ -1,7 +1,7 @@
 // The records of sections and entries, and which are faulty.
 ghost use Rattle.std.specs.Prelude.{◌≡◌, ◌+◌, ◌≤◌, length};
-ghost use Rattle.lookup.specs.Decoding.{inside, namesIn, entriesIn, lent, tableIn};
-ghost use Rattle.lookup.specs.Steps.{there, goodEntry};
+ghost use Rattle.lookup.specs.Decoding.{inside, names_in, entries_in, lent, table_in};
+ghost use Rattle.lookup.specs.Steps.{there, good_entry};
 
 // Whether a part is inside the text.
 pub(crate) fn is_inside(text: &[u8], start: usize, size: usize) -> bool
@@ -15,7 +15,7 @@ pub(crate) fn is_inside(text: &[u8], start: usize, size: usize) -> bool
 
 // Whether so many records of sections are there, and none is faulty.
 fn sections_good(text: &[u8], sections: &[usize], count: usize) -> bool
-    ensures { result ≡ there (namesIn text.now count sections.now) }
+    ensures { result ≡ there (names_in text.now count sections.now) }
 {
     let mut at = 0;
     let mut left = count;
@@ -35,7 +35,7 @@ fn sections_good(text: &[u8], sections: &[usize], count: usize) -> bool
 // Whether the entry's record from an index on is not faulty.
 fn entry_good(text: &[u8], section_count: usize, entries: &[usize], at: usize) -> bool
     requires { at + 5 ≤ length entries.now }
-    ensures { result ≡ goodEntry text.now section_count entries.now at }
+    ensures { result ≡ good_entry text.now section_count entries.now at }
 {
     if section_count <= entries[at] {
         return false;
@@ -48,7 +48,7 @@ fn entry_good(text: &[u8], section_count: usize, entries: &[usize], at: usize) -
 
 // The same for entries as for sections.
 fn entries_good(text: &[u8], section_count: usize, entries: &[usize], count: usize) -> bool
-    ensures { result ≡ there (entriesIn text.now section_count count entries.now) }
+    ensures { result ≡ there (entries_in text.now section_count count entries.now) }
 {
     let mut at = 0;
     let mut left = count;
@@ -73,7 +73,7 @@ pub(crate) fn holds_table(
     entries: &[usize],
     entry_count: usize,
 ) -> bool
-    ensures { result ≡ there (tableIn (lent text.now sections.now section_count entries.now entry_count)) }
+    ensures { result ≡ there (table_in (lent text.now sections.now section_count entries.now entry_count)) }
 {
     if !sections_good(text, sections, section_count) {
         return false;

@@ -1,10 +1,10 @@
 // The index of an entry, by the name of its section and by its key.
 ghost use Rattle.std.specs.Prelude.{◌≡◌, true, ◌+◌, ◌≤◌, length};
 ghost use Rattle.lines.specs.Bytes.{equal};
-ghost use Rattle.lookup.specs.Decoding.{part, lent, tableIn};
-ghost use Rattle.lookup.specs.Questions.{indexIn};
-ghost use Rattle.lookup.specs.Answers.{findMeans};
-ghost use Rattle.lookup.specs.Steps.{there, matchesAt, EntryInside, Finds};
+ghost use Rattle.lookup.specs.Decoding.{part, lent, table_in};
+ghost use Rattle.lookup.specs.Questions.{index_in};
+ghost use Rattle.lookup.specs.Answers.{find_means};
+ghost use Rattle.lookup.specs.Steps.{there, matches_at, EntryInside, Finds};
 ghost use Rattle.lookup.specs.declared.search.Which.TheVariants.{First, Last};
 
 use crate::error::Error;
@@ -43,7 +43,7 @@ fn is_entry(
     at: usize,
 ) -> bool
     requires { EntryInside text.now sections.now entries.now at }
-    ensures { result ≡ matchesAt section.now key.now text.now sections.now entries.now at }
+    ensures { result ≡ matches_at section.now key.now text.now sections.now entries.now at }
 {
     if !is_part(key, text, entries[at + 1], entries[at + 2]) {
         return false;
@@ -62,7 +62,7 @@ fn first_entry(
     entries: &[usize],
     entry_count: usize,
 ) -> usize
-    requires { there (tableIn (lent text.now sections.now section_count entries.now entry_count)) ≡ true }
+    requires { there (table_in (lent text.now sections.now section_count entries.now entry_count)) ≡ true }
     ensures { Finds (lent text.now sections.now section_count entries.now entry_count) First section.now key.now result }
 {
     let mut i = 0;
@@ -85,7 +85,7 @@ fn last_entry(
     entries: &[usize],
     entry_count: usize,
 ) -> usize
-    requires { there (tableIn (lent text.now sections.now section_count entries.now entry_count)) ≡ true }
+    requires { there (table_in (lent text.now sections.now section_count entries.now entry_count)) ≡ true }
     ensures { Finds (lent text.now sections.now section_count entries.now entry_count) Last section.now key.now result }
 {
     let mut i = entry_count;
@@ -109,7 +109,7 @@ fn find_entry(
     entries: &[usize],
     entry_count: usize,
 ) -> usize
-    requires { there (tableIn (lent text.now sections.now section_count entries.now entry_count)) ≡ true }
+    requires { there (table_in (lent text.now sections.now section_count entries.now entry_count)) ≡ true }
     ensures { Finds (lent text.now sections.now section_count entries.now entry_count) which section.now key.now result }
 {
     match which {
@@ -147,7 +147,7 @@ pub fn find(
     entries: &[usize],
     entry_count: usize,
 ) -> FindAnswer
-    ensures { findMeans result ≡ indexIn (lent text.now sections.now section_count entries.now entry_count) which section.now key.now }
+    ensures { find_means result ≡ index_in (lent text.now sections.now section_count entries.now entry_count) which section.now key.now }
 {
     if !holds_table(text, sections, section_count, entries, entry_count) {
         return FindAnswer::Refused(Error::FaultyRecord);

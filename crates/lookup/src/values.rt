@@ -1,8 +1,8 @@
 // The value (the rules' joined text) of an entry, by its index.
 ghost use Rattle.std.specs.Prelude.{◌≡◌, ◌+◌, ◌≤◌, length, get_or};
 ghost use Rattle.lookup.specs.Decoding.{lent};
-ghost use Rattle.lookup.specs.Questions.{partIn};
-ghost use Rattle.lookup.specs.Answers.{valueMeans, HandsBack};
+ghost use Rattle.lookup.specs.Questions.{part_in};
+ghost use Rattle.lookup.specs.Answers.{value_means, HandsBack};
 ghost use Rattle.lookup.specs.declared.values.ValueAnswer.TheVariants.{Accepted};
 
 use crate::error::Error;
@@ -36,7 +36,7 @@ pub fn value_check(
     entries: &[usize],
     entry_count: usize,
 ) -> ValueAnswer
-    ensures { valueMeans result ≡ partIn (lent text.now sections.now section_count entries.now entry_count) index }
+    ensures { value_means result ≡ part_in (lent text.now sections.now section_count entries.now entry_count) index }
 {
     if !holds_table(text, sections, section_count, entries, entry_count) {
         return ValueAnswer::Refused(Error::FaultyRecord);

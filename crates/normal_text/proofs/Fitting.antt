@@ -10,37 +10,37 @@ use Rattle.lines.specs.Trim.{trimmed}
 use Rattle.lines.specs.Lines.{continued}
 use Rattle.lines.specs.Laws.{Legal, Settled}
 use Rattle.lines.proofs.Bools.{by_cases}
-use Rattle.lines.proofs.Trimming.{length-trim}
+use Rattle.lines.proofs.Trimming.{length_trim}
 use Rattle.lines.proofs.Runs.{continued-after}
-use Rattle.lines.proofs.Legal.{legal-after}
+use Rattle.lines.proofs.Legal.{legal_after}
 use Rattle.table.specs.Laws.{EntryParts}
 use Rattle.table.proofs.KindLaws.{HeaderParts}
 use Rattle.normal_text.specs.Sections.{Pair}
-use Rattle.normal_text.specs.NormalText.{headerLine, padded, entryLine}
-use Rattle.normal_text.proofs.Trimmed.{legal-behind, continued-behind, legal-trimmed, trimmed-shorter}
+use Rattle.normal_text.specs.NormalText.{header_line, padded, entry_line}
+use Rattle.normal_text.proofs.Trimmed.{legal_behind, continued-behind, legal_trimmed, trimmed_shorter}
 
-pub header-shorter : (l x : Bytes) → HeaderParts (trimmed l) x → length (headerLine x) ≤ length l
-unfolding headerLine
-header-shorter l x h = omega (arith, ap length h.0, length-trim l)
+pub header_shorter : (l x : Bytes) → HeaderParts (trimmed l) x → length (header_line x) ≤ length l
+unfolding header_line
+header_shorter l x h = omega (arith, ap length h.0, length_trim l)
 
 module _ (l : Bytes) (s : Settled l) (p : Pair) (h : EntryParts (trimmed l) p.key p.value) where
   -- cut at its =
   cut : trimmed l ≡ (p.key ++ h.front) ++ 0x3D ∷ (h.back ++ p.value)
   cut = h.line ∙ append_assoc (p.key ++ h.front) (0x3D ∷ h.back) p.value
 
-  pub value-legal : Legal p.value
-  value-legal =
-      legal-behind h.back p.value h.back-blank
-      (legal-after (p.key ++ h.front) 0x3D (h.back ++ p.value) refl refl (rw cut at (legal-trimmed l s.legal)))
+  pub value_legal : Legal p.value
+  value_legal =
+      legal_behind h.back p.value h.back_blank
+      (legal_after (p.key ++ h.front) 0x3D (h.back ++ p.value) refl refl (rw cut at (legal_trimmed l s.legal)))
 
   -- the value's closing run is the line's
-  same-run : continued (trimmed l) ≡ continued p.value
-  same-run =
+  same_run : continued (trimmed l) ≡ continued p.value
+  same_run =
       ap continued cut ∙ continued-after (p.key ++ h.front) 0x3D (h.back ++ p.value) refl
-      ∙ continued-behind h.back p.value h.back-blank
+      ∙ continued-behind h.back p.value h.back_blank
 
-  cut-length : length (trimmed l) ≡ length p.key + length h.front + (length h.back + length p.value + 1)
-  cut-length =
+  cut_length : length (trimmed l) ≡ length p.key + length h.front + (length h.back + length p.value + 1)
+  cut_length =
       omega (
         arith,
         ap length cut,
@@ -49,9 +49,9 @@ module _ (l : Bytes) (s : Settled l) (p : Pair) (h : EntryParts (trimmed l) p.ke
         length-append h.back p.value,
       )
 
-  pub entry-shorter : length (entryLine p) ≤ length l
-  unfolding entryLine padded
-  entry-shorter =
+  pub entry_shorter : length (entry_line p) ≤ length l
+  unfolding entry_line padded
+  entry_shorter =
       by_cases (continued p.value)
-      (λ e. rw e (simp length-append (omega (arith, cut-length, trimmed-shorter l s.ends (same-run ∙ e)))))
-      (λ e. rw e (simp length-append (omega (arith, cut-length, length-trim l))))
+      (λ e. rw e (simp length-append (omega (arith, cut_length, trimmed_shorter l s.ends (same_run ∙ e)))))
+      (λ e. rw e (simp length-append (omega (arith, cut_length, length_trim l))))

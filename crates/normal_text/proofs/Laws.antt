@@ -1,25 +1,25 @@
 -- The laws that specs/Laws.antt states, each by the module that proves it.
 use Rattle.normal_text.specs.Laws.{SectionsOfTable, TableOfSections, SectionsByLines, NormalFits, NormalReads, NormalTells, NormalDecided}
-use Rattle.normal_text.proofs.ByLines.{sections-by-lines}
-use Rattle.normal_text.proofs.Theorem.{sections-in, table-in, normal-fits, normal-reads, normal-tells, normal-decided}
+use Rattle.normal_text.proofs.ByLines.{sections_by_lines}
+use Rattle.normal_text.proofs.Theorem.{sections_in_lem, table_in_lem, normal_fits, normal_reads, normal_tells, normal_decided}
 
-pub sections-of-table : SectionsOfTable
-sections-of-table = sections-in
+pub sections_of_table : SectionsOfTable
+sections_of_table = sections_in_lem
 
-pub table-of-sections : TableOfSections
-table-of-sections = table-in
+pub table_of_sections : TableOfSections
+table_of_sections = table_in_lem
 
-pub sections-are-by-lines : SectionsByLines
-sections-are-by-lines = sections-by-lines
+pub sections_are_by_lines : SectionsByLines
+sections_are_by_lines = sections_by_lines
 
-pub normal-text-fits : NormalFits
-normal-text-fits = normal-fits
+pub normal_text_fits : NormalFits
+normal_text_fits = normal_fits
 
-pub normal-text-reads-back : NormalReads
-normal-text-reads-back = normal-reads
+pub normal_text_reads_back : NormalReads
+normal_text_reads_back = normal_reads
 
-pub normal-text-tells : NormalTells
-normal-text-tells = normal-tells
+pub normal_text_tells : NormalTells
+normal_text_tells = normal_tells
 
-pub enough-space-decides : NormalDecided
-enough-space-decides = normal-decided
+pub enough_space_decides : NormalDecided
+enough_space_decides = normal_decided

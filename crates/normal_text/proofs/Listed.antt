@@ -33,15 +33,15 @@ module _ {A : Type 0} (f : ℕ → A) where
   none_left n i h = drop_of_length-le (listed f n 0) {i = i} (omega (arith, all_listed n))
 
   -- a list with these elements is that list
-  listed-from : (n j : ℕ) (l : List A) → length l ≡ n → ((i : ℕ) → i < n → drop i l ≡ f (i + j) ∷ drop (suc i) l) → listed f n j ≡ l
+  listed_from : (n j : ℕ) (l : List A) → length l ≡ n → ((i : ℕ) → i < n → drop i l ≡ f (i + j) ∷ drop (suc i) l) → listed f n j ≡ l
   unfolding listed
-  listed-from zero j [] e h = refl
-  listed-from zero j (x ∷ l) e h = absurd (omega arith)
-  listed-from (suc n) j [] e h = absurd (omega arith)
-  listed-from (suc n) j (x ∷ l) e h =
+  listed_from zero j [] e h = refl
+  listed_from zero j (x ∷ l) e h = absurd (omega arith)
+  listed_from (suc n) j [] e h = absurd (omega arith)
+  listed_from (suc n) j (x ∷ l) e h =
       let z : 0 + j ≡ j = omega arith in
       let q : x ∷ l ≡ f j ∷ l = h 0 (omega arith) ∙ ap (λ (m : ℕ). f m ∷ l) z in
-      ap (λ (r : List A). f j ∷ r) (listed-from n (suc j) l (omega arith) (λ i k. h (suc i) (omega arith) ∙ ap (λ (m : ℕ). f m ∷ drop (suc i) l) (omega arith))) ∙ sym q
+      ap (λ (r : List A). f j ∷ r) (listed_from n (suc j) l (omega arith) (λ i k. h (suc i) (omega arith) ∙ ap (λ (m : ℕ). f m ∷ drop (suc i) l) (omega arith))) ∙ sym q
 
-  pub is-listed : (n : ℕ) (l : List A) → length l ≡ n → ((i : ℕ) → i < n → drop i l ≡ f i ∷ drop (suc i) l) → listed f n 0 ≡ l
-  is-listed n l e h = listed-from n 0 l e (λ i k. h i k ∙ ap (λ (m : ℕ). f m ∷ drop (suc i) l) (omega arith))
+  pub is_listed : (n : ℕ) (l : List A) → length l ≡ n → ((i : ℕ) → i < n → drop i l ≡ f i ∷ drop (suc i) l) → listed f n 0 ≡ l
+  is_listed n l e h = listed_from n 0 l e (λ i k. h i k ∙ ap (λ (m : ℕ). f m ∷ drop (suc i) l) (omega arith))

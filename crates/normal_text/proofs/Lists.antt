@@ -20,9 +20,9 @@ module _ {A : Type 0} where
   all_join P [] b h k = k
   all_join P (x ∷ a) b h k = (h.0, all_join P a b h.1 k)
 
-  pub sum-snoc : (w : A → ℕ) (l : List A) (x : A) → sum w (l ++ x ∷ []) ≡ sum w l + w x
-  sum-snoc w [] x = omega arith
-  sum-snoc w (y ∷ l) x = omega (arith, sum-snoc w l x)
+  pub sum_snoc : (w : A → ℕ) (l : List A) (x : A) → sum w (l ++ x ∷ []) ≡ sum w l + w x
+  sum_snoc w [] x = omega arith
+  sum_snoc w (y ∷ l) x = omega (arith, sum_snoc w l x)
 
   -- one for each
   pub sum_ones : (l : List A) → sum (λ x. 1) l ≡ length l

@@ -14,65 +14,65 @@ use Rattle.lines.specs.Answers.{Outcome, accepted, refused}
 use Rattle.lines.specs.Buffers.{filled, Puts}
 use Rattle.lines.specs.declared.error.Error.TheVariants.{ShortBuffer}
 use Rattle.lines.proofs.Bools.{by_cases}
-use Rattle.lines.proofs.Outcomes.{not-accepted}
+use Rattle.lines.proofs.Outcomes.{not_accepted}
 use Rattle.table.specs.Tables.{Table, entries, verdict}
-use Rattle.table.specs.Contents.{text_of, sectionNumbers, entryNumbers}
-use Rattle.table.specs.Answers.{number_of, place_of, Counts, countsOf, counted, textAfter, sectionsAfter, entriesAfter, ReadLeaves, readIn, Reads}
+use Rattle.table.specs.Contents.{text_of, section_numbers, entry_numbers}
+use Rattle.table.specs.Answers.{number_of, place_of, Counts, counts_of, counted, text_after, sections_after, entries_after, ReadLeaves, read_in, Reads}
 use Rattle.table.specs.declared.error.Error.{Error}
 use Rattle.table.specs.declared.error.Error.TheVariants.{File}
 use Rattle.table.specs.declared.reader.ReadAnswer.{ReadAnswer}
 use Rattle.table.specs.declared.reader.ReadAnswer.TheVariants.{Accepted as ReadAccepted, Refused as ReadRefused}
-use Rattle.table.proofs.Laws.{tables-fit}
+use Rattle.table.proofs.Laws.{tables_fit}
 use Rattle.table.proofs.ReadCalls.{table_kept}
-use Rattle.lookup.specs.Decoding.{lent, tableIn}
-use Rattle.lookup.specs.Laws.{readInto, decodedOf}
-use Rattle.lookup.proofs.Laws.{tables-decode}
-use Rattle.normal_text.specs.Sections.{sectionsOf}
-use Rattle.normal_text.specs.NormalText.{normalText}
-use Rattle.normal_text.specs.Answers.{normalOf, sized, outAfter, NormalLeaves, normalIn, Normalizes}
+use Rattle.lookup.specs.Decoding.{lent, table_in}
+use Rattle.lookup.specs.Laws.{read_into, decoded_of}
+use Rattle.lookup.proofs.Laws.{tables_decode}
+use Rattle.normal_text.specs.Sections.{sections_of}
+use Rattle.normal_text.specs.NormalText.{normal_text}
+use Rattle.normal_text.specs.Answers.{normal_of, sized, out_after, NormalLeaves, normal_in, Normalizes}
 use Rattle.normal_text.specs.declared.normal.NormalAnswer.TheVariants.{Accepted, Refused}
-use Rattle.normal_text.specs.Steps.{sectionsAt, NamePartsInside, EntryPartsInside, SectionsBelow}
-use Rattle.normal_text.proofs.Records.{names-inside, entries-inside, sections-below, sections-said}
-use Rattle.normal_text.proofs.Theorem.{sections-in, normal-fits, space-decides}
+use Rattle.normal_text.specs.Steps.{sections_at, NamePartsInside, EntryPartsInside, SectionsBelow}
+use Rattle.normal_text.proofs.Records.{names-inside, entries-inside, sections_below, sections_said}
+use Rattle.normal_text.proofs.Theorem.{sections_in_lem, normal_fits, space_decides}
 
 -- ---- 1
 
-pub no-space : (f text : Bytes) (sections entries : List ℕ) (out : Bytes) → length out < 65535
+pub no_space : (f text : Bytes) (sections entries : List ℕ) (out : Bytes) → length out < 65535
     → Normalizes f text sections entries out (Refused (File ShortBuffer)) text sections entries out
-no-space f text sections entries out h =
-    let e : normalIn (length text) (length sections) (length entries) (length out) f ≡ refused 1 0 = unfold normalIn in (rw (lt-ltb (length out) 65535 h)) in
+no_space f text sections entries out h =
+    let e : normal_in (length text) (length sections) (length entries) (length out) f ≡ refused 1 0 = unfold normal_in in (rw (lt-ltb (length out) 65535 h)) in
     record {
       answer = ap sized (sym e);
       left = table_kept _ 1 0 e text sections entries;
-      out-after = ap (λ (o : Outcome Table). outAfter o out) (sym e);
+      new_out = ap (λ (o : Outcome Table). out_after o out) (sym e);
     }
 
 -- ---- what an answer of the reader says
 
 -- a call that is accepted has read a table
-which-table : (o : Outcome Table) (c : Counts) → accepted c ≡ counted o → (t : Table) × (o ≡ accepted t) × (c ≡ countsOf t)
-which-table (accepted t) c e = (t, refl, cc e)
-which-table (refused n p) c e = not-accepted n p c (sym e)
+which_table : (o : Outcome Table) (c : Counts) → accepted c ≡ counted o → (t : Table) × (o ≡ accepted t) × (c ≡ counts_of t)
+which_table (accepted t) c e = (t, refl, cc e)
+which_table (refused n p) c e = not_accepted n p c (sym e)
 
 -- where the reader is not refused with 1, it reads what the file's bytes say
-read-verdict : (a b c : ℕ) (f : Bytes) (t : Table) → readIn a b c f ≡ accepted t → verdict f ≡ accepted t
-unfolding readIn
-read-verdict a b c f t e =
+read_verdict : (a b c : ℕ) (f : Bytes) (t : Table) → read_in a b c f ≡ accepted t → verdict f ≡ accepted t
+unfolding read_in
+read_verdict a b c f t e =
     by_cases (ltb a 65535 || (ltb b 128 || ltb c 2560))
-    (λ q. not-accepted 1 0 t (rw q at e))
+    (λ q. not_accepted 1 0 t (rw q at e))
     (λ q. rw q at e)
 
 -- buffers and counts that are equal
-same-lent : {text text' : Bytes} {ns ns' : List ℕ} {m m' : ℕ} {es es' : List ℕ} {k k' : ℕ}
+same_lent : {text text' : Bytes} {ns ns' : List ℕ} {m m' : ℕ} {es es' : List ℕ} {k k' : ℕ}
     → text ≡ text' → ns ≡ ns' → es ≡ es' → m ≡ m' → k ≡ k' → lent text ns m es k ≡ lent text' ns' m' es' k'
-same-lent p q r s u = rw (p, q, r, s, u)
+same_lent p q r s u = rw (p, q, r, s, u)
 
 -- ---- a read call that was accepted: d, e and g are the buffers before it
 
 module _ (f d : Bytes) (e g : List ℕ) (r : ReadAnswer) (text : Bytes) (sections numbers : List ℕ)
     (read : Reads f d e g r text sections numbers) (n m k : ℕ) (known : r ≡ ReadAccepted n m k) where
   abbrev outcome : Outcome Table
-  outcome = readIn (length d) (length e) (length g) f
+  outcome = read_in (length d) (length e) (length g) f
 
   promise : Reads f d e g (ReadAccepted n m k) text sections numbers
   promise = subst (λ (a : ReadAnswer). Reads f d e g a text sections numbers) known read
@@ -80,88 +80,88 @@ module _ (f d : Bytes) (e g : List ℕ) (r : ReadAnswer) (text : Bytes) (section
   abbrev counts : Counts
   counts = record { text = n; sections = m; entries = k }
 
-  there : (t : Table) × (outcome ≡ accepted t) × (counts ≡ countsOf t)
-  there = which-table outcome counts promise.answer
+  there : (t : Table) × (outcome ≡ accepted t) × (counts ≡ counts_of t)
+  there = which_table outcome counts promise.answer
 
   abbrev t : Table
   t = there.0
 
   judged : verdict f ≡ accepted t
-  judged = read-verdict (length d) (length e) (length g) f t there.1
+  judged = read_verdict (length d) (length e) (length g) f t there.1
 
-  text-is : text ≡ filled (text_of t.events) d
-  text-is = promise.left.text-after ∙ ap (λ (o : Outcome Table). textAfter o d) there.1
+  text_is : text ≡ filled (text_of t.events) d
+  text_is = promise.left.new_text ∙ ap (λ (o : Outcome Table). text_after o d) there.1
 
-  sections-are : sections ≡ filled (sectionNumbers t.events) e
-  sections-are = promise.left.sections-after ∙ ap (λ (o : Outcome Table). sectionsAfter o e) there.1
+  sections_are : sections ≡ filled (section_numbers t.events) e
+  sections_are = promise.left.new_sections ∙ ap (λ (o : Outcome Table). sections_after o e) there.1
 
-  entries-are : numbers ≡ filled (entryNumbers t.events) g
-  entries-are = promise.left.entries-after ∙ ap (λ (o : Outcome Table). entriesAfter o g) there.1
+  entries_are : numbers ≡ filled (entry_numbers t.events) g
+  entries_are = promise.left.new_entries ∙ ap (λ (o : Outcome Table). entries_after o g) there.1
 
   -- the buffers hold the table
-  lent_is : lent text sections m numbers k ≡ readInto t d e g
+  lent_is : lent text sections m numbers k ≡ read_into t d e g
   lent_is =
-      same-lent
-      text-is sections-are entries-are
+      same_lent
+      text_is sections_are entries_are
       (ap (λ (c : Counts). c.sections) there.2)
       (ap (λ (c : Counts). c.entries) there.2)
 
-  decodes : tableIn (lent text sections m numbers k) ≡ some (decodedOf t)
-  decodes = ap tableIn lent_is ∙ tables-decode f t judged d e g
+  decodes : table_in (lent text sections m numbers k) ≡ some (decoded_of t)
+  decodes = ap table_in lent_is ∙ tables_decode f t judged d e g
 
   -- so its sections are said by the records
-  said : normalText (sectionsAt text sections m numbers k) ≡ normalOf t
-  unfolding sectionsOf
-  said = ap normalText (sections-said (lent text sections m numbers k) (decodedOf t) decodes)
+  said : normal_text (sections_at text sections m numbers k) ≡ normal_of t
+  unfolding sections_of
+  said = ap normal_text (sections_said (lent text sections m numbers k) (decoded_of t) decodes)
 
-  fits : length (normalText (sectionsAt text sections m numbers k)) ≤ 65535
+  fits : length (normal_text (sections_at text sections m numbers k)) ≤ 65535
   fits =
-      let h = normal-fits f (sectionsOf t) (sections-in f t judged) in
+      let h = normal_fits f (sections_of t) (sections_in_lem f t judged) in
       omega (arith, ap length said, h.0, h.1)
 
   -- what putting the normal text asks for
   pub asked : (out : Bytes) → 65535 ≤ length out
       → NamePartsInside text sections m × EntryPartsInside text numbers k × SectionsBelow m numbers k × (m ≤ 64) × (k ≤ 512)
-      × (length (normalText (sectionsAt text sections m numbers k)) ≤ length out)
+      × (length (normal_text (sections_at text sections m numbers k)) ≤ length out)
   asked out h =
       let b = lent text sections m numbers k in
-      let s = (tables-fit f t judged).0 in (
-        names-inside b (decodedOf t) decodes,
-        entries-inside b (decodedOf t) decodes,
-        sections-below b (decodedOf t) decodes,
-        omega (arith, ap (λ (c : Counts). c.sections) there.2, s.few-sections),
-        omega (arith, ap (λ (c : Counts). c.entries) there.2, s.few-entries),
+      let s = (tables_fit f t judged).0 in (
+        names-inside b (decoded_of t) decodes,
+        entries-inside b (decoded_of t) decodes,
+        sections_below b (decoded_of t) decodes,
+        omega (arith, ap (λ (c : Counts). c.sections) there.2, s.few_sections),
+        omega (arith, ap (λ (c : Counts). c.entries) there.2, s.few_entries),
         omega (arith, fits),
       )
 
   -- what stands in the four buffers when it was put
   pub written_out : (out : Bytes) → 65535 ≤ length out → (l : ℕ) (out' : Bytes)
-      → Puts out 0 (normalText (sectionsAt text sections m numbers k)) l out'
+      → Puts out 0 (normal_text (sections_at text sections m numbers k)) l out'
       → Normalizes f d e g out (Accepted l n m k) text sections numbers out'
   written_out out h l out' p =
-      let o : normalIn (length d) (length e) (length g) (length out) f ≡ accepted t = space-decides (length d) (length e) (length g) (length out) f h ∙ there.1 in
-      let long : l ≡ length (normalOf t) = omega (arith, p.behind, ap length said) in
+      let o : normal_in (length d) (length e) (length g) (length out) f ≡ accepted t = space_decides (length d) (length e) (length g) (length out) f h ∙ there.1 in
+      let long : l ≡ length (normal_of t) = omega (arith, p.behind, ap length said) in
       subst (λ (v : Outcome Table). NormalLeaves v d e g out (Accepted l n m k) text sections numbers out') (sym o)
       (record {
-        answer = rw long (ap (λ (c : Counts). accepted (record { length = length (normalOf t); table = c })) there.2);
-        left = record { text-after = text-is; sections-after = sections-are; entries-after = entries-are };
-        out-after = p.after ∙ rw (said, zero-add);
+        answer = rw long (ap (λ (c : Counts). accepted (record { length = length (normal_of t); table = c })) there.2);
+        left = record { new_text = text_is; new_sections = sections_are; new_entries = entries_are };
+        new_out = p.after ∙ rw (said, zero-add);
       })
 
 -- ---- a read call that was refused
 
 -- the refusal is that of the call, and nothing has changed
-pub read-refused : (f d : Bytes) (e g : List ℕ) (r : ReadAnswer) (text : Bytes) (sections numbers : List ℕ) → Reads f d e g r text sections numbers
+pub read_refused : (f d : Bytes) (e g : List ℕ) (r : ReadAnswer) (text : Bytes) (sections numbers : List ℕ) → Reads f d e g r text sections numbers
     → (k : Error) → r ≡ ReadRefused k → (out : Bytes) → 65535 ≤ length out → Normalizes f d e g out (Refused k) text sections numbers out
-read-refused f d e g r text sections numbers read k known out h =
+read_refused f d e g r text sections numbers read k known out h =
     subst (λ (v : Outcome Table). NormalLeaves v d e g out (Refused k) text sections numbers out)
-    (sym (space-decides (length d) (length e) (length g) (length out) f h))
-    (go (readIn (length d) (length e) (length g) f) (subst (λ (a : ReadAnswer). Reads f d e g a text sections numbers) known read))
+    (sym (space_decides (length d) (length e) (length g) (length out) f h))
+    (go (read_in (length d) (length e) (length g) f) (subst (λ (a : ReadAnswer). Reads f d e g a text sections numbers) known read))
   where
     go : (o : Outcome Table) → ReadLeaves o d e g (ReadRefused k) text sections numbers → NormalLeaves o d e g out (Refused k) text sections numbers out
-    go (accepted t) p = not-accepted (number_of k) (place_of k) (countsOf t) p.answer
+    go (accepted t) p = not_accepted (number_of k) (place_of k) (counts_of t) p.answer
     go (refused n q) p = record {
       answer = cc p.answer;
       left = p.left;
-      out-after = refl;
+      new_out = refl;
     }

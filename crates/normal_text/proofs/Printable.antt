@@ -12,50 +12,50 @@ use Rattle.lines.specs.Files.{size}
 use Rattle.lines.specs.Trim.{trimmed}
 use Rattle.lines.specs.Answers.{Outcome, accepted, refused}
 use Rattle.lines.specs.Laws.{All, Legal, Settled, Sound, total}
-use Rattle.lines.proofs.Laws.{lines_fit, lines-settled}
-use Rattle.table.specs.Tables.{Entry, entryIn, Table, emptyTable, names, entries, step, run, verdict}
-use Rattle.table.proofs.Events.{names-section, names-entry, entries-section, entries-entry}
-use Rattle.table.proofs.Outcomes.{Holds, of-accepted, holds-imp, Kept, step_keeps, step-is-short, run-keeps, verdict-keeps}
+use Rattle.lines.proofs.Laws.{lines_fit, lines_settled}
+use Rattle.table.specs.Tables.{Entry, entry_in, Table, empty_table, names, entries, step, run, verdict}
+use Rattle.table.proofs.Events.{names_section, names-entry, entries_section, entries-entry}
+use Rattle.table.proofs.Outcomes.{Holds, of_accepted, holds_imp, Kept, step_keeps, step_is_short, run_keeps, verdict_keeps}
 use Rattle.table.proofs.TableLaws.{all_snoc}
 use Rattle.normal_text.specs.Sections.{Pair, pair_of}
-use Rattle.normal_text.specs.NormalText.{headerLine, entryLine}
-use Rattle.normal_text.proofs.Lists.{sum, sum-snoc}
-use Rattle.normal_text.proofs.Fitting.{header-shorter, value-legal, entry-shorter}
+use Rattle.normal_text.specs.NormalText.{header_line, entry_line}
+use Rattle.normal_text.proofs.Lists.{sum, sum_snoc}
+use Rattle.normal_text.proofs.Fitting.{header_shorter, value_legal, entry_shorter}
 
 -- ---- a table that can be written out
 
 -- the bytes of a header's line, with its LF
-abbrev pub headerSize : Bytes → ℕ
-headerSize x = suc (length (headerLine x))
+abbrev pub header_size : Bytes → ℕ
+header_size x = suc (length (header_line x))
 
 -- and of an entry's
-abbrev pub entrySize : Pair → ℕ
-entrySize p = suc (length (entryLine p))
+abbrev pub entry_size : Pair → ℕ
+entry_size p = suc (length (entry_line p))
 
 -- its line is short enough
 abbrev pub ShortName : Bytes → Type 0
-ShortName x = length (headerLine x) ≤ 4096
+ShortName x = length (header_line x) ≤ 4096
 
 -- its value is legal, and its line short enough
 pub record EntryPrints (e : Entry) : Type 0 where
   pub legal : Legal e.value
-  pub short : length (entryLine (pair_of e)) ≤ 4096
+  pub short : length (entry_line (pair_of e)) ≤ 4096
 
 -- all names and entries, in at most n bytes
 pub record Printable (n : ℕ) (t : Table) : Type 0 where
-  pub short-names : All ShortName (names t.events)
-  pub good-entries : All EntryPrints (entries t.events)
-  pub fits : sum headerSize (names t.events) + sum (λ e. entrySize (pair_of e)) (entries t.events) ≤ n
+  pub short_names : All ShortName (names t.events)
+  pub good_entries : All EntryPrints (entries t.events)
+  pub fits : sum header_size (names t.events) + sum (λ e. entry_size (pair_of e)) (entries t.events) ≤ n
 
-empty-printable : Printable 0 emptyTable
+empty_printable : Printable 0 empty_table
 unfolding names entries
-empty-printable = record { short-names = tt; good-entries = tt; fits = omega arith }
+empty_printable = record { short_names = tt; good_entries = tt; fits = omega arith }
 
 -- a larger bound, and any open section
-printable-more : (n m : ℕ) (t u : Table) → t.events ≡ u.events → n ≤ m → Printable n t → Printable m u
-printable-more n m t u e h p = record {
-  short-names = rw (← e) p.short-names;
-  good-entries = rw (← e) p.good-entries;
+printable_more : (n m : ℕ) (t u : Table) → t.events ≡ u.events → n ≤ m → Printable n t → Printable m u
+printable_more n m t u e h p = record {
+  short_names = rw (← e) p.short_names;
+  good_entries = rw (← e) p.good_entries;
   fits = rw (← e) (omega (arith, p.fits));
 }
 
@@ -68,36 +68,36 @@ module _ (n : ℕ) (t : Table) (p : Printable n t) (l : Bytes) (s : Settled l) w
 
   step_kept : Kept Next t (trimmed l)
   step_kept = record {
-    same = λ z short. printable-more n (n + suc (length l)) t t refl (omega arith) p;
-    again = λ x i h e short. printable-more n (n + suc (length l)) t (record { events = t.events; current = some i }) refl (omega arith) p;
+    same = λ z short. printable_more n (n + suc (length l)) t t refl (omega arith) p;
+    again = λ x i h e short. printable_more n (n + suc (length l)) t (record { events = t.events; current = some i }) refl (omega arith) p;
     named = λ x h e few short.
-        let k : length (headerLine x) ≤ length l = header-shorter l x h in
+        let k : length (header_line x) ≤ length l = header_shorter l x h in
         record {
-          short-names = rw names-section (all_snoc ShortName (names t.events) x p.short-names (omega arith));
-          good-entries = rw entries-section p.good-entries;
-          fits = rw (names-section, entries-section) (omega (arith, p.fits, sum-snoc headerSize (names t.events) x));
+          short_names = rw names_section (all_snoc ShortName (names t.events) x p.short_names (omega arith));
+          good_entries = rw entries_section p.good_entries;
+          fits = rw (names_section, entries_section) (omega (arith, p.fits, sum_snoc header_size (names t.events) x));
         };
     filed = λ k v i h e few short.
-        let d : Entry = entryIn i k v in
-        let b : length (entryLine (pair_of d)) ≤ length l = entry-shorter l s (pair_of d) h in
-        let g : EntryPrints d = record { legal = value-legal l s (pair_of d) h; short = omega arith } in
+        let d : Entry = entry_in i k v in
+        let b : length (entry_line (pair_of d)) ≤ length l = entry_shorter l s (pair_of d) h in
+        let g : EntryPrints d = record { legal = value_legal l s (pair_of d) h; short = omega arith } in
         record {
-          short-names = rw names-entry p.short-names;
-          good-entries = rw entries-entry (all_snoc EntryPrints (entries t.events) d p.good-entries g);
-          fits = rw (names-entry, entries-entry) (omega (arith, p.fits, sum-snoc (λ e. entrySize (pair_of e)) (entries t.events) d));
+          short_names = rw names-entry p.short_names;
+          good_entries = rw entries-entry (all_snoc EntryPrints (entries t.events) d p.good_entries g);
+          fits = rw (names-entry, entries-entry) (omega (arith, p.fits, sum_snoc (λ e. entry_size (pair_of e)) (entries t.events) d));
         };
   }
 
   -- it is
-  next-holds : (o : Outcome Table) → Holds Next o → Holds (λ u. length l ≤ 4096) o → Holds (Printable (n + suc (length l))) o
-  next-holds (accepted u) h k = h k
-  next-holds (refused c m) h k = tt
+  next_holds : (o : Outcome Table) → Holds Next o → Holds (λ u. length l ≤ 4096) o → Holds (Printable (n + suc (length l))) o
+  next_holds (accepted u) h k = h k
+  next_holds (refused c m) h k = tt
 
-step-prints : (n : ℕ) (t : Table) (l : Line) → Printable n t → Settled l.bytes → Holds (Printable (n + suc (length l.bytes))) (step t l)
-step-prints n t l p s =
-    next-holds n t p l.bytes s (step t l)
+step_prints : (n : ℕ) (t : Table) (l : Line) → Printable n t → Settled l.bytes → Holds (Printable (n + suc (length l.bytes))) (step t l)
+step_prints n t l p s =
+    next_holds n t p l.bytes s (step t l)
     (step_keeps (Next n t p l.bytes s) t l (step_kept n t p l.bytes s))
-    (step-is-short t l)
+    (step_is_short t l)
 
 -- ---- all lines
 
@@ -111,23 +111,23 @@ pub record Ahead (m : ℕ) (ls : List Line) (t : Table) : Type 0 where
 ahead_step : (m : ℕ) (l : Line) (ls : List Line) (t : Table) → Ahead m (l ∷ ls) t → Holds (Ahead m ls) (step t l)
 unfolding total
 ahead_step m l ls t a =
-    holds-imp (Printable (a.bytes + suc (length l.bytes))) (Ahead m ls)
+    holds_imp (Printable (a.bytes + suc (length l.bytes))) (Ahead m ls)
     (λ u p. record { bytes = a.bytes + suc (length l.bytes); printable = p; fits = omega (arith, a.fits); settled = a.settled.1 })
-    (step t l) (step-prints a.bytes t l a.printable a.settled.0)
+    (step t l) (step_prints a.bytes t l a.printable a.settled.0)
 
 -- ---- a file
 
-sound-prints : (f : Bytes) → Sound f → Holds (Printable (size f)) (run emptyTable (logical f))
-sound-prints f s =
-    holds-imp (Ahead (size f) []) (Printable (size f))
-    (λ t a. printable-more a.bytes (size f) t t refl (omega (arith, a.fits)) a.printable)
-    (run emptyTable (logical f))
-    (run-keeps (Ahead (size f)) (ahead_step (size f)) (logical f) emptyTable (record {
+sound_prints : (f : Bytes) → Sound f → Holds (Printable (size f)) (run empty_table (logical f))
+sound_prints f s =
+    holds_imp (Ahead (size f) []) (Printable (size f))
+    (λ t a. printable_more a.bytes (size f) t t refl (omega (arith, a.fits)) a.printable)
+    (run empty_table (logical f))
+    (run_keeps (Ahead (size f)) (ahead_step (size f)) (logical f) empty_table (record {
       bytes = 0;
-      printable = empty-printable;
+      printable = empty_printable;
       fits = omega (arith, lines_fit f);
-      settled = lines-settled f s.characters s.bytes;
+      settled = lines_settled f s.characters s.bytes;
     }))
 
-pub verdict-prints : (f : Bytes) (t : Table) → verdict f ≡ accepted t → Printable (size f) t
-verdict-prints f t = of-accepted (Printable (size f)) (verdict f) t (verdict-keeps (Printable (size f)) f (sound-prints f))
+pub verdict_prints : (f : Bytes) (t : Table) → verdict f ≡ accepted t → Printable (size f) t
+verdict_prints f t = of_accepted (Printable (size f)) (verdict f) t (verdict_keeps (Printable (size f)) f (sound_prints f))

@@ -9,29 +9,29 @@ use Rattle.normal_text.specs.Sections.{Pair, Section}
 -- ---- names of sections
 
 -- a header's name in front of those behind it
-unfoldable pub withName : Kind → List Bytes → List Bytes
-withName empty xs = xs
-withName (header x) xs = x ∷ xs
-withName (entry k v) xs = xs
-withName (fault n) xs = xs
+unfoldable pub with_name : Kind → List Bytes → List Bytes
+with_name empty xs = xs
+with_name (header x) xs = x ∷ xs
+with_name (entry k v) xs = xs
+with_name (fault n) xs = xs
 
 -- the names of all headers among lines, in order
-unfoldable pub headerNames : List Line → List Bytes
-unfolding withName kind trimmed
-headerNames [] = []
-headerNames (l ∷ ls) = withName (kind (trimmed l.bytes)) (headerNames ls)
+unfoldable pub header_names : List Line → List Bytes
+unfolding with_name kind trimmed
+header_names [] = []
+header_names (l ∷ ls) = with_name (kind (trimmed l.bytes)) (header_names ls)
 
 -- one of the names is x
-unfoldable pub isAmong : Bytes → List Bytes → Bool
+unfoldable pub is_among : Bytes → List Bytes → Bool
 unfolding equal
-isAmong x [] = false
-isAmong x (y ∷ ys) = equal x y || isAmong x ys
+is_among x [] = false
+is_among x (y ∷ ys) = equal x y || is_among x ys
 
 -- each name once, in order of first appearance; those that were seen before are left out
-unfoldable pub eachOnce : (seen : List Bytes) → List Bytes → List Bytes
-unfolding isAmong
-eachOnce seen [] = []
-eachOnce seen (x ∷ xs) = cond (isAmong x seen) (eachOnce seen xs) (x ∷ eachOnce (seen ++ x ∷ []) xs)
+unfoldable pub each_once : (seen : List Bytes) → List Bytes → List Bytes
+unfolding is_among
+each_once seen [] = []
+each_once seen (x ∷ xs) = cond (is_among x seen) (each_once seen xs) (x ∷ each_once (seen ++ x ∷ []) xs)
 
 -- ---- entries
 
@@ -55,20 +55,20 @@ headed x [] = []
 headed x (l ∷ ls) = under x (kind (trimmed l.bytes)) (λ y. headed y ls)
 
 -- the pairs that stand under a header with this name
-unfoldable pub pairsUnder : (x : Bytes) → List Headed → List Pair
+unfoldable pub pairs_under : (x : Bytes) → List Headed → List Pair
 unfolding equal
-pairsUnder x [] = []
-pairsUnder x (h ∷ hs) = cond (equal h.header x) (h.pair ∷ pairsUnder x hs) (pairsUnder x hs)
+pairs_under x [] = []
+pairs_under x (h ∷ hs) = cond (equal h.header x) (h.pair ∷ pairs_under x hs) (pairs_under x hs)
 
 -- ---- sections
 
 -- names, each with the pairs under all headers of that name
-unfoldable pub sectionsUnder : List Bytes → List Headed → List (Section Pair)
-unfolding pairsUnder
-sectionsUnder [] hs = []
-sectionsUnder (x ∷ xs) hs = record { name = x; entries = pairsUnder x hs } ∷ sectionsUnder xs hs
+unfoldable pub sections_under : List Bytes → List Headed → List (Section Pair)
+unfolding pairs_under
+sections_under [] hs = []
+sections_under (x ∷ xs) hs = record { name = x; entries = pairs_under x hs } ∷ sections_under xs hs
 
 -- the sections of logical lines, of which the first entry has a header before it
-unfoldable pub sectionsOfLines : List Line → List (Section Pair)
-unfolding sectionsUnder eachOnce headerNames headed
-sectionsOfLines ls = sectionsUnder (eachOnce [] (headerNames ls)) (headed [] ls)
+unfoldable pub sections_of_lines : List Line → List (Section Pair)
+unfolding sections_under each_once header_names headed
+sections_of_lines ls = sections_under (each_once [] (header_names ls)) (headed [] ls)

@@ -5,8 +5,8 @@ use Rattle.lines.specs.Lines.{written}
 use Rattle.table.specs.Tables.{Entry}
 use Rattle.lookup.specs.Decoding.{part}
 use Rattle.lookup.specs.Steps.{entry_of}
-use Rattle.normal_text.specs.Sections.{Pair, pair_of, Section, ofSection, sectionsFrom}
-use Rattle.normal_text.specs.NormalText.{entryLines}
+use Rattle.normal_text.specs.Sections.{Pair, pair_of, Section, of_section, sections_from}
+use Rattle.normal_text.specs.NormalText.{entry_lines}
 
 -- ---- the table that good records say
 
@@ -28,8 +28,8 @@ abbrev pub entries_at : Bytes → List ℕ → (count : ℕ) → List Entry
 entries_at text ns k = listed (λ i. entry_of text ns (5 * i)) k 0
 
 -- the sections that the records say
-abbrev pub sectionsAt : (text : Bytes) (sections : List ℕ) (m : ℕ) (entries : List ℕ) (k : ℕ) → List (Section Pair)
-sectionsAt text sections m entries k = sectionsFrom pair_of 0 (names_at text sections m) (entries_at text entries k)
+abbrev pub sections_at : (text : Bytes) (sections : List ℕ) (m : ℕ) (entries : List ℕ) (k : ℕ) → List (Section Pair)
+sections_at text sections m entries k = sections_from pair_of 0 (names_at text sections m) (entries_at text entries k)
 
 -- so many sections' records are there, and their names are inside the text
 pub record NamePartsInside (text : Bytes) (ns : List ℕ) (m : ℕ) : Type 0 where
@@ -52,7 +52,7 @@ SectionsBelow m ns k = (i : ℕ) → i < k → get_or ns (5 * i) 0 < m
 -- entry's says that there is none.
 pub record Leads (es : List Entry) (j i at : ℕ) : Type 0 where
   pub later : i ≤ at
-  pub passed : ofSection pair_of j (drop i es) ≡ ofSection pair_of j (drop at es)
+  pub passed : of_section pair_of j (drop i es) ≡ of_section pair_of j (drop at es)
   pub own : (e : Entry) (rest : List Entry) → drop at es ≡ e ∷ rest → e.section ≡ j
 
 -- the links of all sections lead from entry i on, and so do those of the entries from i on
@@ -71,13 +71,13 @@ NoLinks count firsts = (j : ℕ) → j < length firsts → count ≤ get_or firs
 -- ---- what is put into the output buffer
 
 -- a key and a value
-abbrev pub pairWith : Bytes → Bytes → Pair
-pairWith k v = record { key = k; value = v }
+abbrev pub pair_with : Bytes → Bytes → Pair
+pair_with k v = record { key = k; value = v }
 
 -- a line with its LF
-abbrev pub withLF : Bytes → Bytes
-withLF l = l ++ 0x0A ∷ []
+abbrev pub with_lf : Bytes → Bytes
+with_lf l = l ++ 0x0A ∷ []
 
 -- the lines of the entries of section j
-abbrev pub entriesText : (j : ℕ) → List Entry → Bytes
-entriesText j es = written (entryLines (ofSection pair_of j es))
+abbrev pub entries_text : (j : ℕ) → List Entry → Bytes
+entries_text j es = written (entry_lines (of_section pair_of j es))

@@ -1,9 +1,9 @@
 // The normal text of a whole file.
 ghost use Rattle.std.specs.Prelude.{◌≤◌, length};
 ghost use Rattle.lines.specs.Buffers.{Puts};
-ghost use Rattle.normal_text.specs.NormalText.{normalText};
+ghost use Rattle.normal_text.specs.NormalText.{normal_text};
 ghost use Rattle.normal_text.specs.Answers.{Normalizes};
-ghost use Rattle.normal_text.specs.Steps.{sectionsAt, NamePartsInside, EntryPartsInside, SectionsBelow};
+ghost use Rattle.normal_text.specs.Steps.{sections_at, NamePartsInside, EntryPartsInside, SectionsBelow};
 
 use crate::links::link;
 use crate::writer::put_sections;
@@ -38,8 +38,8 @@ fn put_table(
     entry_count: usize,
     out: &mut [u8],
 ) -> usize
-    requires { NamePartsInside text.now sections.now section_count × EntryPartsInside text.now entries.now entry_count × SectionsBelow section_count entries.now entry_count × (section_count ≤ 64) × (entry_count ≤ 512) × (length (normalText (sectionsAt text.now sections.now section_count entries.now entry_count)) ≤ length out.old) }
-    ensures { Puts out.old 0 (normalText (sectionsAt text.now sections.now section_count entries.now entry_count)) result out.new }
+    requires { NamePartsInside text.now sections.now section_count × EntryPartsInside text.now entries.now entry_count × SectionsBelow section_count entries.now entry_count × (section_count ≤ 64) × (entry_count ≤ 512) × (length (normal_text (sections_at text.now sections.now section_count entries.now entry_count)) ≤ length out.old) }
+    ensures { Puts out.old 0 (normal_text (sections_at text.now sections.now section_count entries.now entry_count)) result out.new }
 {
     let mut firsts = [MOST_ENTRIES; MOST_SECTIONS];
     let mut nexts = [MOST_ENTRIES; MOST_ENTRIES];

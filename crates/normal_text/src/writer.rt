@@ -4,15 +4,15 @@ ghost use Rattle.std.specs.Prelude.{◌+◌, ◌*◌, ◌≤◌, ◌<◌, length
 ghost use Rattle.lines.specs.Buffers.{Puts};
 ghost use Rattle.lookup.specs.Steps.{entry_of};
 ghost use Rattle.normal_text.specs.Sections.{pair_of};
-ghost use Rattle.normal_text.specs.NormalText.{headerLine, padded, entryLine, normalText};
-ghost use Rattle.normal_text.specs.Steps.{name_at, entries_at, sectionsAt, NamePartsInside, EntryPartsInside, Linked, withLF, entriesText, pairWith};
+ghost use Rattle.normal_text.specs.NormalText.{header_line, padded, entry_line, normal_text};
+ghost use Rattle.normal_text.specs.Steps.{name_at, entries_at, sections_at, NamePartsInside, EntryPartsInside, Linked, with_lf, entries_text, pair_with};
 
 use lines::{copy_into, is_continued};
 
 // A section's line.
 fn put_header(name: &[u8], out: &mut [u8], at: usize) -> usize
     requires { at + (length name.now + 3) ≤ length out.old }
-    ensures { Puts out.old at (withLF (headerLine name.now)) result out.new }
+    ensures { Puts out.old at (with_lf (header_line name.now)) result out.new }
 {
     out[at] = b'[';
     copy_into(name, out, at + 1);
@@ -38,8 +38,8 @@ fn put_value(value: &[u8], out: &mut [u8], at: usize) -> usize
 
 // An entry's line.
 fn put_entry(key: &[u8], value: &[u8], out: &mut [u8], at: usize) -> usize
-    requires { at + length (withLF (entryLine (pairWith key.now value.now))) ≤ length out.old }
-    ensures { Puts out.old at (withLF (entryLine (pairWith key.now value.now))) result out.new }
+    requires { at + length (with_lf (entry_line (pair_with key.now value.now))) ≤ length out.old }
+    ensures { Puts out.old at (with_lf (entry_line (pair_with key.now value.now))) result out.new }
 {
     copy_into(key, out, at);
     let sign = at + key.len();
@@ -51,8 +51,8 @@ fn put_entry(key: &[u8], value: &[u8], out: &mut [u8], at: usize) -> usize
 
 // The line of the section whose record stands from an index on.
 fn put_name(text: &[u8], sections: &[usize], from: usize, out: &mut [u8], at: usize) -> usize
-    requires { (from + 2 ≤ length sections.now) × (get_or sections.now from 0 + get_or sections.now (from + 1) 0 ≤ length text.now) × (at + length (withLF (headerLine (name_at text.now sections.now from))) ≤ length out.old) }
-    ensures { Puts out.old at (withLF (headerLine (name_at text.now sections.now from))) result out.new }
+    requires { (from + 2 ≤ length sections.now) × (get_or sections.now from 0 + get_or sections.now (from + 1) 0 ≤ length text.now) × (at + length (with_lf (header_line (name_at text.now sections.now from))) ≤ length out.old) }
+    ensures { Puts out.old at (with_lf (header_line (name_at text.now sections.now from))) result out.new }
 {
     let start = sections[from];
     put_header(&text[start..start + sections[from + 1]], out, at)
@@ -60,8 +60,8 @@ fn put_name(text: &[u8], sections: &[usize], from: usize, out: &mut [u8], at: us
 
 // The line of the entry whose record stands from an index on.
 fn put_record(text: &[u8], entries: &[usize], from: usize, out: &mut [u8], at: usize) -> usize
-    requires { (from + 5 ≤ length entries.now) × (get_or entries.now (from + 1) 0 + get_or entries.now (from + 2) 0 ≤ length text.now) × (get_or entries.now (from + 3) 0 + get_or entries.now (from + 4) 0 ≤ length text.now) × (at + length (withLF (entryLine (pair_of (entry_of text.now entries.now from)))) ≤ length out.old) }
-    ensures { Puts out.old at (withLF (entryLine (pair_of (entry_of text.now entries.now from)))) result out.new }
+    requires { (from + 5 ≤ length entries.now) × (get_or entries.now (from + 1) 0 + get_or entries.now (from + 2) 0 ≤ length text.now) × (get_or entries.now (from + 3) 0 + get_or entries.now (from + 4) 0 ≤ length text.now) × (at + length (with_lf (entry_line (pair_of (entry_of text.now entries.now from)))) ≤ length out.old) }
+    ensures { Puts out.old at (with_lf (entry_line (pair_of (entry_of text.now entries.now from)))) result out.new }
 {
     let key = entries[from + 1];
     let value = entries[from + 3];
@@ -84,8 +84,8 @@ fn put_entries(
     out: &mut [u8],
     at: usize,
 ) -> usize
-    requires { EntryPartsInside text.now entries.now count × (count ≤ length nexts.now) × (section < length firsts.now) × Linked (entries_at text.now entries.now count) 0 firsts.now nexts.now × (at + length (entriesText section (entries_at text.now entries.now count)) ≤ length out.old) }
-    ensures { Puts out.old at (entriesText section (entries_at text.now entries.now count)) result out.new }
+    requires { EntryPartsInside text.now entries.now count × (count ≤ length nexts.now) × (section < length firsts.now) × Linked (entries_at text.now entries.now count) 0 firsts.now nexts.now × (at + length (entries_text section (entries_at text.now entries.now count)) ≤ length out.old) }
+    ensures { Puts out.old at (entries_text section (entries_at text.now entries.now count)) result out.new }
 {
     let mut end = at;
     let mut i = firsts[section];
@@ -107,8 +107,8 @@ pub(crate) fn put_sections(
     nexts: &[usize],
     out: &mut [u8],
 ) -> usize
-    requires { NamePartsInside text.now sections.now section_count × EntryPartsInside text.now entries.now entry_count × (entry_count ≤ length nexts.now) × (section_count ≤ length firsts.now) × Linked (entries_at text.now entries.now entry_count) 0 firsts.now nexts.now × (length (normalText (sectionsAt text.now sections.now section_count entries.now entry_count)) ≤ length out.old) }
-    ensures { Puts out.old 0 (normalText (sectionsAt text.now sections.now section_count entries.now entry_count)) result out.new }
+    requires { NamePartsInside text.now sections.now section_count × EntryPartsInside text.now entries.now entry_count × (entry_count ≤ length nexts.now) × (section_count ≤ length firsts.now) × Linked (entries_at text.now entries.now entry_count) 0 firsts.now nexts.now × (length (normal_text (sections_at text.now sections.now section_count entries.now entry_count)) ≤ length out.old) }
+    ensures { Puts out.old 0 (normal_text (sections_at text.now sections.now section_count entries.now entry_count)) result out.new }
 {
     let mut end = 0;
     let mut j = 0;

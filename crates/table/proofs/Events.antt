@@ -4,70 +4,70 @@ use Rattle.std.proofs.Common.{◌≡◌, ℕ, suc, ◌+◌, ◌*◌, ◌<◌, Li
 use mathlib.Core.Option.{Option, none, some}
 use Rattle.lines.specs.Bytes.{Bytes, equal}
 use Rattle.lines.proofs.Bools.{by_cases}
-use Rattle.table.specs.Tables.{Entry, Event, newSection, newEntry, names, entries, later, index_of}
-use Rattle.table.specs.Contents.{eventText, text_of, sectionRecord, entryRecord, recordsFrom}
+use Rattle.table.specs.Tables.{Entry, Event, new_section, new_entry, names, entries, later, index_of}
+use Rattle.table.specs.Contents.{event_text, text_of, section_record, entry_record, records_from}
 
 -- ---- names and entries
 
-pub names-section : (es : List Event) (x : Bytes) → names (es ++ newSection x ∷ []) ≡ names es ++ x ∷ []
+pub names_section : (es : List Event) (x : Bytes) → names (es ++ new_section x ∷ []) ≡ names es ++ x ∷ []
 unfolding names
-names-section [] x = refl
-names-section (newSection y ∷ es) x = ap (λ (l : List Bytes). y ∷ l) (names-section es x)
-names-section (newEntry e ∷ es) x = names-section es x
+names_section [] x = refl
+names_section (new_section y ∷ es) x = ap (λ (l : List Bytes). y ∷ l) (names_section es x)
+names_section (new_entry e ∷ es) x = names_section es x
 
-pub names-entry : (es : List Event) (e : Entry) → names (es ++ newEntry e ∷ []) ≡ names es
+pub names-entry : (es : List Event) (e : Entry) → names (es ++ new_entry e ∷ []) ≡ names es
 unfolding names
 names-entry [] e = refl
-names-entry (newSection y ∷ es) e = ap (λ (l : List Bytes). y ∷ l) (names-entry es e)
-names-entry (newEntry d ∷ es) e = names-entry es e
+names-entry (new_section y ∷ es) e = ap (λ (l : List Bytes). y ∷ l) (names-entry es e)
+names-entry (new_entry d ∷ es) e = names-entry es e
 
-pub entries-section : (es : List Event) (x : Bytes) → entries (es ++ newSection x ∷ []) ≡ entries es
+pub entries_section : (es : List Event) (x : Bytes) → entries (es ++ new_section x ∷ []) ≡ entries es
 unfolding entries
-entries-section [] x = refl
-entries-section (newSection y ∷ es) x = entries-section es x
-entries-section (newEntry d ∷ es) x = ap (λ (l : List Entry). d ∷ l) (entries-section es x)
+entries_section [] x = refl
+entries_section (new_section y ∷ es) x = entries_section es x
+entries_section (new_entry d ∷ es) x = ap (λ (l : List Entry). d ∷ l) (entries_section es x)
 
-pub entries-entry : (es : List Event) (e : Entry) → entries (es ++ newEntry e ∷ []) ≡ entries es ++ e ∷ []
+pub entries-entry : (es : List Event) (e : Entry) → entries (es ++ new_entry e ∷ []) ≡ entries es ++ e ∷ []
 unfolding entries
 entries-entry [] e = refl
-entries-entry (newSection y ∷ es) e = entries-entry es e
-entries-entry (newEntry d ∷ es) e = ap (λ (l : List Entry). d ∷ l) (entries-entry es e)
+entries-entry (new_section y ∷ es) e = entries-entry es e
+entries-entry (new_entry d ∷ es) e = ap (λ (l : List Entry). d ∷ l) (entries-entry es e)
 
 -- ---- the text
 
-pub textOf-snoc : (es : List Event) (e : Event) → text_of (es ++ e ∷ []) ≡ text_of es ++ eventText e
+pub text_of_snoc : (es : List Event) (e : Event) → text_of (es ++ e ∷ []) ≡ text_of es ++ event_text e
 unfolding text_of
-textOf-snoc [] e = append-nil (eventText e)
-textOf-snoc (d ∷ es) e = rw (textOf-snoc es e) (sym (append_assoc (eventText d) (text_of es) (eventText e)))
+text_of_snoc [] e = append-nil (event_text e)
+text_of_snoc (d ∷ es) e = rw (text_of_snoc es e) (sym (append_assoc (event_text d) (text_of es) (event_text e)))
 
-pub text-length : (es : List Event) (e : Event) → length (text_of (es ++ e ∷ [])) ≡ length (text_of es) + length (eventText e)
-text-length es e = ap length (textOf-snoc es e) ∙ length-append (text_of es) (eventText e)
+pub text_length : (es : List Event) (e : Event) → length (text_of (es ++ e ∷ [])) ≡ length (text_of es) + length (event_text e)
+text_length es e = ap length (text_of_snoc es e) ∙ length-append (text_of es) (event_text e)
 
 -- ---- the numbers
 
-pub records-snoc : (f : ℕ → Event → List ℕ) (a : ℕ) (es : List Event) (e : Event)
-    → recordsFrom f a (es ++ e ∷ []) ≡ recordsFrom f a es ++ f (a + length (text_of es)) e
-unfolding recordsFrom text_of
-records-snoc f a [] e =
+pub records_snoc : (f : ℕ → Event → List ℕ) (a : ℕ) (es : List Event) (e : Event)
+    → records_from f a (es ++ e ∷ []) ≡ records_from f a es ++ f (a + length (text_of es)) e
+unfolding records_from text_of
+records_snoc f a [] e =
     let n : a + 0 ≡ a = omega arith in
     append-nil (f a e) ∙ ap (λ (i : ℕ). f i e) (sym n)
-records-snoc f a (d ∷ es) e =
-    let n : (a + length (eventText d)) + length (text_of es) ≡ a + length (eventText d ++ text_of es) =
-    omega (arith, length-append (eventText d) (text_of es)) in
-    rw (records-snoc f (a + length (eventText d)) es e, n)
-    (sym (append_assoc (f a d) (recordsFrom f (a + length (eventText d)) es) (f (a + length (eventText d ++ text_of es)) e)))
+records_snoc f a (d ∷ es) e =
+    let n : (a + length (event_text d)) + length (text_of es) ≡ a + length (event_text d ++ text_of es) =
+    omega (arith, length-append (event_text d) (text_of es)) in
+    rw (records_snoc f (a + length (event_text d)) es e, n)
+    (sym (append_assoc (f a d) (records_from f (a + length (event_text d)) es) (f (a + length (event_text d ++ text_of es)) e)))
 
-pub sections-length : (a : ℕ) (es : List Event) → length (recordsFrom sectionRecord a es) ≡ 2 * length (names es)
-unfolding recordsFrom names
-sections-length a [] = refl
-sections-length a (newSection x ∷ es) = omega (arith, sections-length (a + length x) es)
-sections-length a (newEntry e ∷ es) = sections-length (a + length (e.key ++ e.value)) es
+pub sections_length : (a : ℕ) (es : List Event) → length (records_from section_record a es) ≡ 2 * length (names es)
+unfolding records_from names
+sections_length a [] = refl
+sections_length a (new_section x ∷ es) = omega (arith, sections_length (a + length x) es)
+sections_length a (new_entry e ∷ es) = sections_length (a + length (e.key ++ e.value)) es
 
-pub entries-length : (a : ℕ) (es : List Event) → length (recordsFrom entryRecord a es) ≡ 5 * length (entries es)
-unfolding recordsFrom entries
+pub entries-length : (a : ℕ) (es : List Event) → length (records_from entry_record a es) ≡ 5 * length (entries es)
+unfolding records_from entries
 entries-length a [] = refl
-entries-length a (newSection x ∷ es) = entries-length (a + length x) es
-entries-length a (newEntry e ∷ es) = omega (arith, entries-length (a + length (e.key ++ e.value)) es)
+entries-length a (new_section x ∷ es) = entries-length (a + length x) es
+entries-length a (new_entry e ∷ es) = omega (arith, entries-length (a + length (e.key ++ e.value)) es)
 
 -- ---- the index of a name
 

@@ -1,50 +1,50 @@
 -- The laws that specs/Laws.antt states, each by the module that proves it.
 use Rattle.table.specs.Laws.{EmptyLine, HeaderMade, HeaderIsMade, EntryMade, EntryIsMade, TableFits, RecordsSized, NamesApart, EntriesInside, NamesLegal, EntriesLegal, RefusalNumbers, NumbersDecideNothing, ReadDecided}
-use Rattle.table.proofs.KindLaws.{empty-line, header_made, header-is-made, entry-made, entry-is-made}
-use Rattle.table.proofs.Events.{sections-length, entries-length}
+use Rattle.table.proofs.KindLaws.{empty_line, header_made, header_is_made, entry_made, entry_is_made}
+use Rattle.table.proofs.Events.{sections_length, entries-length}
 use Rattle.table.proofs.Sizes.{table_fits}
-use Rattle.table.proofs.TableLaws.{names_apart, entries-inside, names-legal, entries-legal, numbers-decide-nothing}
-use Rattle.table.proofs.Refusals.{refusal-numbers}
-use Rattle.table.proofs.ReadCalls.{enough-space}
+use Rattle.table.proofs.TableLaws.{names_apart, entries-inside, names_legal, entries_legal, numbers_decide_nothing}
+use Rattle.table.proofs.Refusals.{refusal_numbers}
+use Rattle.table.proofs.ReadCalls.{enough_space}
 
-pub only-nothing-is-empty : EmptyLine
-only-nothing-is-empty = empty-line
+pub only_nothing_is_empty : EmptyLine
+only_nothing_is_empty = empty_line
 
-pub brackets-are-a-header : HeaderMade
-brackets-are-a-header = header_made
+pub brackets_are_a_header : HeaderMade
+brackets_are_a_header = header_made
 
-pub headers-are-brackets : HeaderIsMade
-headers-are-brackets = header-is-made
+pub headers_are_brackets : HeaderIsMade
+headers_are_brackets = header_is_made
 
-pub parts-are-an-entry : EntryMade
-parts-are-an-entry = entry-made
+pub parts_are_an_entry : EntryMade
+parts_are_an_entry = entry_made
 
-pub entries-are-parts : EntryIsMade
-entries-are-parts = entry-is-made
+pub entries_are_parts : EntryIsMade
+entries_are_parts = entry_is_made
 
-pub tables-fit : TableFits
-tables-fit = table_fits
+pub tables_fit : TableFits
+tables_fit = table_fits
 
-pub records-are-sized : RecordsSized
-records-are-sized es = (sections-length 0 es, entries-length 0 es)
+pub records_are_sized : RecordsSized
+records_are_sized es = (sections_length 0 es, entries-length 0 es)
 
-pub names-are-apart : NamesApart
-names-are-apart = names_apart
+pub names_are_apart : NamesApart
+names_are_apart = names_apart
 
-pub entries-are-inside : EntriesInside
-entries-are-inside = entries-inside
+pub entries_are_inside : EntriesInside
+entries_are_inside = entries-inside
 
-pub names-are-legal : NamesLegal
-names-are-legal = names-legal
+pub names_are_legal : NamesLegal
+names_are_legal = names_legal
 
-pub entries-are-legal : EntriesLegal
-entries-are-legal = entries-legal
+pub entries_are_legal : EntriesLegal
+entries_are_legal = entries_legal
 
-pub refusals-are-numbered : RefusalNumbers
-refusals-are-numbered = refusal-numbers
+pub refusals_are_numbered : RefusalNumbers
+refusals_are_numbered = refusal_numbers
 
-pub line-numbers-decide-nothing : NumbersDecideNothing
-line-numbers-decide-nothing = numbers-decide-nothing
+pub line_numbers_decide_nothing : NumbersDecideNothing
+line_numbers_decide_nothing = numbers_decide_nothing
 
-pub enough-space-decides : ReadDecided
-enough-space-decides = enough-space
+pub enough_space_decides : ReadDecided
+enough_space_decides = enough_space

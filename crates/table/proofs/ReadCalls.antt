@@ -4,27 +4,27 @@ use Rattle.lines.specs.Bytes.{Bytes}
 use Rattle.lines.specs.Lines.{logical}
 use Rattle.lines.specs.Answers.{Outcome, accepted, refused}
 use Rattle.lines.specs.Answers as file
-use Rattle.lines.specs.Files.{size, checkedFile, checkMeans}
+use Rattle.lines.specs.Files.{size, checked_file, check_means}
 use Rattle.lines.specs.Buffers.{put}
 use Rattle.lines.specs.declared.error.Error.{Error as FileError}
 use Rattle.lines.specs.declared.error.Error.TheVariants.{ShortBuffer}
 use Rattle.lines.specs.declared.file.Check.{Check}
 use Rattle.lines.specs.declared.file.Check.TheVariants.{Accepted as CheckAccepted, Refused as CheckRefused}
 use Rattle.lines.proofs.Bools.{by_cases}
-use Rattle.lines.proofs.Buffers.{front-copied}
-use Rattle.lines.proofs.FileLaws.{size-over}
-use Rattle.lines.proofs.Laws.{checked-is-sound}
-use Rattle.table.specs.Tables.{Table, emptyTable, names, and_then, run, verdict}
+use Rattle.lines.proofs.Buffers.{front_copied}
+use Rattle.lines.proofs.FileLaws.{size_over}
+use Rattle.lines.proofs.Laws.{checked_is_sound}
+use Rattle.table.specs.Tables.{Table, empty_table, names, and_then, run, verdict}
 use Rattle.table.specs.Tables as tables
-use Rattle.table.specs.Contents.{text_of, sectionNumbers, entryNumbers}
-use Rattle.table.specs.Answers.{number_of, place_of, errorMeans, readMeans, counted, textAfter, sectionsAfter, entriesAfter, TableLeft, ReadLeaves, readIn, Reads}
+use Rattle.table.specs.Contents.{text_of, section_numbers, entry_numbers}
+use Rattle.table.specs.Answers.{number_of, place_of, error_means, read_means, counted, text_after, sections_after, entries_after, TableLeft, ReadLeaves, read_in, Reads}
 use Rattle.table.specs.Steps.{AllRead, ReadInto}
 use Rattle.table.specs.declared.error.Error.{Error}
 use Rattle.table.specs.declared.error.Error.TheVariants.{File}
 use Rattle.table.specs.declared.state.State.{State}
 use Rattle.table.specs.declared.reader.ReadAnswer.{ReadAnswer}
 use Rattle.table.specs.declared.reader.ReadAnswer.TheVariants.{Accepted, Refused}
-use Rattle.table.proofs.Events.{sections-length, entries-length}
+use Rattle.table.proofs.Events.{sections_length, entries-length}
 
 -- ---- a refusal leaves the lent buffers as they were
 
@@ -32,13 +32,13 @@ pub table_kept : (o : Outcome Table) (n p : ℕ) → o ≡ refused n p → (text
     → TableLeft o text sections entries text sections entries
 table_kept o n p e text sections entries =
     subst (λ (x : Outcome Table). TableLeft x text sections entries text sections entries) (sym e)
-    (record { text-after = refl; sections-after = refl; entries-after = refl })
+    (record { new_text = refl; new_sections = refl; new_entries = refl })
 
-leaves-refused : (o : Outcome Table) (k : Error) → o ≡ errorMeans k → (r : ReadAnswer) → r ≡ Refused k → (text : Bytes) (sections entries : List ℕ)
+leaves_refused : (o : Outcome Table) (k : Error) → o ≡ error_means k → (r : ReadAnswer) → r ≡ Refused k → (text : Bytes) (sections entries : List ℕ)
     → ReadLeaves o text sections entries r text sections entries
-leaves-refused o k f r q text sections entries =
+leaves_refused o k f r q text sections entries =
     record {
-      answer = ap readMeans q ∙ sym (ap counted f);
+      answer = ap read_means q ∙ sym (ap counted f);
       left = table_kept o (number_of k) (place_of k) f text sections entries;
     }
 
@@ -48,100 +48,100 @@ module _ (o : Outcome Table) (d text : Bytes) (e sections g entries : List ℕ) 
   pub all_known : (n m k : ℕ) → r ≡ Accepted n m k → AllRead o d text e sections g entries n m k
   all_known n m k q = subst (λ (z : ReadAnswer). ReadInto o d e g z text sections entries) q h
 
-  pub apart-refused : (k : Error) → r ≡ Refused k → (text' : Bytes) (sections' entries' : List ℕ)
+  pub apart_refused : (k : Error) → r ≡ Refused k → (text' : Bytes) (sections' entries' : List ℕ)
       → ReadLeaves o text' sections' entries' r text' sections' entries'
-  apart-refused k q text' sections' entries' =
-      leaves-refused o k (subst (λ (z : ReadAnswer). ReadInto o d e g z text sections entries) q h) r q text' sections' entries'
+  apart_refused k q text' sections' entries' =
+      leaves_refused o k (subst (λ (z : ReadAnswer). ReadInto o d e g z text sections entries) q h) r q text' sections' entries'
 
 module _ (o : Outcome Table) (d text : Bytes) (e sections g entries : List ℕ) (n m k : ℕ) (h : AllRead o d text e sections g entries n m k) where
-  text-count : n ≡ length (text_of h.table.events)
-  text-count = h.text-is ∙ ap (λ (z : State). z.text) h.holds.state
+  text_count : n ≡ length (text_of h.table.events)
+  text_count = h.text_is ∙ ap (λ (z : State). z.text) h.holds.state
 
-  section-count : m ≡ length (names h.table.events)
-  section-count = h.sections-is ∙ ap (λ (z : State). z.sections) h.holds.state
+  section_count_lem : m ≡ length (names h.table.events)
+  section_count_lem = h.sections_is ∙ ap (λ (z : State). z.sections) h.holds.state
 
-  entry-count : k ≡ length (tables.entries h.table.events)
-  entry-count = h.entries-is ∙ ap (λ (z : State). z.entries) h.holds.state
+  entry_count_lem : k ≡ length (tables.entries h.table.events)
+  entry_count_lem = h.entries_is ∙ ap (λ (z : State). z.entries) h.holds.state
 
   -- what is copied fits
-  pub counts-fit : (n ≤ 65535) × (2 * m ≤ 128) × (5 * k ≤ 2560)
-  counts-fit =
-      (omega (arith, text-count, h.sized.text), omega (arith, section-count, h.sized.few-sections), omega (arith, entry-count, h.sized.few-entries))
+  pub counts_fit : (n ≤ 65535) × (2 * m ≤ 128) × (5 * k ≤ 2560)
+  counts_fit =
+      (omega (arith, text_count, h.sized.text), omega (arith, section_count_lem, h.sized.few_sections), omega (arith, entry_count_lem, h.sized.few_entries))
 
   -- what was read is copied
-  pub apart-copied : (a a' : Bytes) (b b' c c' : List ℕ) → 65535 ≤ length a → 128 ≤ length b → 2560 ≤ length c
+  pub apart_copied : (a a' : Bytes) (b b' c c' : List ℕ) → 65535 ≤ length a → 128 ≤ length b → 2560 ≤ length c
       → a' ≡ cond (leb (0 + length (take (n - 0) text)) (length a)) (put a 0 (take (n - 0) text)) a
       → b' ≡ cond (leb (0 + length (take (2 * m - 0) sections)) (length b)) (put b 0 (take (2 * m - 0) sections)) b
       → c' ≡ cond (leb (0 + length (take (5 * k - 0) entries)) (length c)) (put c 0 (take (5 * k - 0) entries)) c
       → ReadLeaves o a b c (Accepted n m k) a' b' c'
-  apart-copied a a' b b' c c' la lb lc pa pb pc =
-      let x : 2 * m ≡ length (sectionNumbers h.table.events) = omega (arith, section-count, sections-length 0 h.table.events) in
-      let y : 5 * k ≡ length (entryNumbers h.table.events) = omega (arith, entry-count, entries-length 0 h.table.events) in
+  apart_copied a a' b b' c c' la lb lc pa pb pc =
+      let x : 2 * m ≡ length (section_numbers h.table.events) = omega (arith, section_count_lem, sections_length 0 h.table.events) in
+      let y : 5 * k ≡ length (entry_numbers h.table.events) = omega (arith, entry_count_lem, entries-length 0 h.table.events) in
       record {
-        answer = rw (text-count, section-count, entry-count) (sym (ap counted h.outcome));
+        answer = rw (text_count, section_count_lem, entry_count_lem) (sym (ap counted h.outcome));
         left = record {
-          text-after =
-              front-copied (text_of h.table.events) d text a a' n h.holds.text-is text-count (omega (arith, counts-fit.0)) pa
-              ∙ sym (ap (λ (z : Outcome Table). textAfter z a) h.outcome);
-          sections-after =
-              front-copied (sectionNumbers h.table.events) e sections b b' (2 * m) h.holds.sections-are x (omega (arith, counts-fit.1)) pb
-              ∙ sym (ap (λ (z : Outcome Table). sectionsAfter z b) h.outcome);
-          entries-after =
-              front-copied (entryNumbers h.table.events) g entries c c' (5 * k) h.holds.entries-are y (omega (arith, counts-fit.2)) pc
-              ∙ sym (ap (λ (z : Outcome Table). entriesAfter z c) h.outcome);
+          new_text =
+              front_copied (text_of h.table.events) d text a a' n h.holds.text_is text_count (omega (arith, counts_fit.0)) pa
+              ∙ sym (ap (λ (z : Outcome Table). text_after z a) h.outcome);
+          new_sections =
+              front_copied (section_numbers h.table.events) e sections b b' (2 * m) h.holds.sections_are x (omega (arith, counts_fit.1)) pb
+              ∙ sym (ap (λ (z : Outcome Table). sections_after z b) h.outcome);
+          new_entries =
+              front_copied (entry_numbers h.table.events) g entries c c' (5 * k) h.holds.entries_are y (omega (arith, counts_fit.2)) pc
+              ∙ sym (ap (λ (z : Outcome Table). entries_after z c) h.outcome);
         };
       }
 
 -- ---- the whole file
 
 -- a file that is accepted before its lines are read is short
-pub checked-short : (f : Bytes) (c : Check) → checkMeans c ≡ checkedFile f → c ≡ CheckAccepted → length f ≤ 65535
-checked-short f c h q =
-    let s = checked-is-sound f (sym h ∙ ap checkMeans q) in
+pub checked_short : (f : Bytes) (c : Check) → check_means c ≡ checked_file f → c ≡ CheckAccepted → length f ≤ 65535
+checked_short f c h q =
+    let s = checked_is_sound f (sym h ∙ ap check_means q) in
     by_cases (ltb 65535 (length f))
-    (λ e. let l = ltb-true 65535 (size f) (size-over 65535 f (ltb-true 65535 (length f) e)) in absurd (omega (arith, l, s.short)))
+    (λ e. let l = ltb-true 65535 (size f) (size_over 65535 f (ltb-true 65535 (length f) e)) in absurd (omega (arith, l, s.short)))
     (λ e. omega (arith, ltb-false 65535 (length f) e))
 
 -- with enough space, the file alone decides
-pub enough-space : (a b c : ℕ) (f : Bytes) → 65535 ≤ a → 128 ≤ b → 2560 ≤ c → readIn a b c f ≡ verdict f
-unfolding readIn
-enough-space a b c f ha hb hc = rw (le-ltb a 65535 ha, le-ltb b 128 hb, le-ltb c 2560 hc)
+pub enough_space : (a b c : ℕ) (f : Bytes) → 65535 ≤ a → 128 ≤ b → 2560 ≤ c → read_in a b c f ≡ verdict f
+unfolding read_in
+enough_space a b c f ha hb hc = rw (le-ltb a 65535 ha, le-ltb b 128 hb, le-ltb c 2560 hc)
 
 module _ (f text : Bytes) (sections entries : List ℕ) where
-  short : readIn (length text) (length sections) (length entries) f ≡ refused 1 0
+  short : read_in (length text) (length sections) (length entries) f ≡ refused 1 0
       → Reads f text sections entries (Refused (File ShortBuffer)) text sections entries
-  short e = leaves-refused _ (File ShortBuffer) e (Refused (File ShortBuffer)) refl text sections entries
+  short e = leaves_refused _ (File ShortBuffer) e (Refused (File ShortBuffer)) refl text sections entries
 
-  pub short-text : length text < 65535 → Reads f text sections entries (Refused (File ShortBuffer)) text sections entries
-  unfolding readIn
-  short-text h = short (rw (lt-ltb (length text) 65535 h))
+  pub short_text : length text < 65535 → Reads f text sections entries (Refused (File ShortBuffer)) text sections entries
+  unfolding read_in
+  short_text h = short (rw (lt-ltb (length text) 65535 h))
 
   module _ (ht : 65535 ≤ length text) where
-    pub short-sections : length sections < 128 → Reads f text sections entries (Refused (File ShortBuffer)) text sections entries
-    unfolding readIn
-    short-sections h = short (rw (le-ltb (length text) 65535 ht, lt-ltb (length sections) 128 h))
+    pub short_sections : length sections < 128 → Reads f text sections entries (Refused (File ShortBuffer)) text sections entries
+    unfolding read_in
+    short_sections h = short (rw (le-ltb (length text) 65535 ht, lt-ltb (length sections) 128 h))
 
     module _ (hs : 128 ≤ length sections) where
-      pub short-entries : length entries < 2560 → Reads f text sections entries (Refused (File ShortBuffer)) text sections entries
-      unfolding readIn
-      short-entries h = short (rw (le-ltb (length text) 65535 ht, le-ltb (length sections) 128 hs, lt-ltb (length entries) 2560 h))
+      pub short_entries : length entries < 2560 → Reads f text sections entries (Refused (File ShortBuffer)) text sections entries
+      unfolding read_in
+      short_entries h = short (rw (le-ltb (length text) 65535 ht, le-ltb (length sections) 128 hs, lt-ltb (length entries) 2560 h))
 
       module _ (he : 2560 ≤ length entries) where
-        enough : readIn (length text) (length sections) (length entries) f ≡ verdict f
-        enough = enough-space (length text) (length sections) (length entries) f ht hs he
+        enough : read_in (length text) (length sections) (length entries) f ≡ verdict f
+        enough = enough_space (length text) (length sections) (length entries) f ht hs he
 
-        module _ (c : Check) (m : checkMeans c ≡ checkedFile f) where
-          pub file-refused : (k : FileError) → c ≡ CheckRefused k → Reads f text sections entries (Refused (File k)) text sections entries
+        module _ (c : Check) (m : check_means c ≡ checked_file f) where
+          pub file_refused : (k : FileError) → c ≡ CheckRefused k → Reads f text sections entries (Refused (File k)) text sections entries
           unfolding verdict and_then
-          file-refused k q =
-              let e : checkedFile f ≡ refused (file.number_of k) (file.place_of k) = sym m ∙ ap checkMeans q in
-              leaves-refused _ (File k) (enough ∙ rw e) (Refused (File k)) refl text sections entries
+          file_refused k q =
+              let e : checked_file f ≡ refused (file.number_of k) (file.place_of k) = sym m ∙ ap check_means q in
+              leaves_refused _ (File k) (enough ∙ rw e) (Refused (File k)) refl text sections entries
 
-          pub file-read : c ≡ CheckAccepted → (r : ReadAnswer) (text' : Bytes) (sections' entries' : List ℕ)
-              → ReadLeaves (run emptyTable (logical f)) text sections entries r text' sections' entries'
+          pub file_read : c ≡ CheckAccepted → (r : ReadAnswer) (text' : Bytes) (sections' entries' : List ℕ)
+              → ReadLeaves (run empty_table (logical f)) text sections entries r text' sections' entries'
               → Reads f text sections entries r text' sections' entries'
           unfolding verdict and_then
-          file-read q r text' sections' entries' h =
-              let e : checkedFile f ≡ accepted tt = sym m ∙ ap checkMeans q in
-              let v : readIn (length text) (length sections) (length entries) f ≡ run emptyTable (logical f) = enough ∙ rw e in
+          file_read q r text' sections' entries' h =
+              let e : checked_file f ≡ accepted tt = sym m ∙ ap check_means q in
+              let v : read_in (length text) (length sections) (length entries) f ≡ run empty_table (logical f) = enough ∙ rw e in
               subst (λ (z : Outcome Table). ReadLeaves z text sections entries r text' sections' entries') (sym v) h

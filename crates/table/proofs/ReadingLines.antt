@@ -4,17 +4,17 @@ use Rattle.lines.specs.Bytes.{Bytes}
 use Rattle.lines.specs.Lines.{Line}
 use Rattle.lines.specs.Trim.{trimmed}
 use Rattle.lines.specs.Answers.{accepted, refused}
-use Rattle.lines.specs.Cursors.{logicalFrom, NextLine}
+use Rattle.lines.specs.Cursors.{logical_from, NextLine}
 use Rattle.lines.specs.Laws.{FoundLine, LongLine}
 use Rattle.lines.specs.declared.error.Error.{Error as FileError}
 use Rattle.lines.specs.declared.joiner.Cursor.{Cursor}
 use Rattle.lines.specs.declared.joiner.Next.{Next}
 use Rattle.lines.specs.declared.joiner.Next.TheVariants.{Found, End, Refused as NextRefused}
 use Rattle.lines.proofs.Buffers.{take-filled}
-use Rattle.lines.proofs.Laws.{found-tells, end-tells, refused-tells}
+use Rattle.lines.proofs.Laws.{found_tells, end_tells, refused_tells}
 use Rattle.table.specs.LineKinds.{kind}
 use Rattle.table.specs.Tables.{Table, act, step, and_then, run}
-use Rattle.table.specs.Answers.{errorMeans}
+use Rattle.table.specs.Answers.{error_means}
 use Rattle.table.specs.Steps.{LineTaken, TakesLine, ReadsLine}
 use Rattle.table.specs.declared.error.Error.{Error}
 use Rattle.table.specs.declared.error.Error.TheVariants.{File}
@@ -27,37 +27,37 @@ use Rattle.table.specs.declared.reader.Turn.TheVariants.{Go as TurnGo, End as Tu
 -- ---- one line before others
 
 -- a line of at most 4,096 bytes does what its kind does
-short-step : (t : Table) (l : Line) → length l.bytes ≤ 4096 → step t l ≡ act l.number t (kind (trimmed l.bytes))
+short_step : (t : Table) (l : Line) → length l.bytes ≤ 4096 → step t l ≡ act l.number t (kind (trimmed l.bytes))
 unfolding step
-short-step t l h = rw (le-ltb 4096 (length l.bytes) h)
+short_step t l h = rw (le-ltb 4096 (length l.bytes) h)
 
-long-step : (t : Table) (l : Line) → 4096 < length l.bytes → step t l ≡ refused 5 l.number
+long_step : (t : Table) (l : Line) → 4096 < length l.bytes → step t l ≡ refused 5 l.number
 unfolding step
-long-step t l h = rw (lt-ltb 4096 (length l.bytes) h)
+long_step t l h = rw (lt-ltb 4096 (length l.bytes) h)
 
-pub run-nil : (t : Table) → run t [] ≡ accepted t
+pub run_nil : (t : Table) → run t [] ≡ accepted t
 unfolding run
-run-nil t = refl
+run_nil t = refl
 
 pub run_more : (t u : Table) (l : Line) (ls : List Line) → step t l ≡ accepted u → run t (l ∷ ls) ≡ run u ls
 unfolding run and_then
 run_more t u l ls e = rw e
 
-run-stops : (t : Table) (l : Line) (ls : List Line) (n p : ℕ) → step t l ≡ refused n p → run t (l ∷ ls) ≡ refused n p
+run_stops : (t : Table) (l : Line) (ls : List Line) (n p : ℕ) → step t l ≡ refused n p → run t (l ∷ ls) ≡ refused n p
 unfolding run and_then
-run-stops t l ls n p e = rw e
+run_stops t l ls n p e = rw e
 
 -- ---- what the call for the next line answers
 
 module _ (f : Bytes) (c : Cursor) (before after : Bytes) (r : Next) (h : NextLine f c before after r) where
-  pub found-known : (n m : ℕ) (q : Cursor) → r ≡ Found n m q → FoundLine f c before after n m q
-  found-known n m q e = found-tells f c before after n m q (subst (NextLine f c before after) e h)
+  pub found_known : (n m : ℕ) (q : Cursor) → r ≡ Found n m q → FoundLine f c before after n m q
+  found_known n m q e = found_tells f c before after n m q (subst (NextLine f c before after) e h)
 
-  pub end_known : r ≡ End → logicalFrom f c ≡ []
-  end_known e = (end-tells f c before after (subst (NextLine f c before after) e h)).0
+  pub end_known : r ≡ End → logical_from f c ≡ []
+  end_known e = (end_tells f c before after (subst (NextLine f c before after) e h)).0
 
-  pub long-known : (k : FileError) → 4096 ≤ length before → r ≡ NextRefused k → LongLine f c before after k
-  long-known k l e = refused-tells f c before after k l (subst (NextLine f c before after) e h)
+  pub long_known : (k : FileError) → 4096 ≤ length before → r ≡ NextRefused k → LongLine f c before after k
+  long_known k l e = refused_tells f c before after k l (subst (NextLine f c before after) e h)
 
 -- the part of the line buffer fits where the bytes of the file did
 pub part-fits : (f : Bytes) (c : Cursor) (before after : Bytes) (n m : ℕ) (q : Cursor) → FoundLine f c before after n m q
@@ -75,39 +75,39 @@ module _ (f : Bytes) (p : Progress) (text : Bytes) (sections entries : List ℕ)
     -- the part of the line buffer is the line
     part : take (n - 0) after ≡ l.line.bytes
     part =
-        let e : n - 0 ≡ length l.line.bytes = omega (arith, l.length-is) in
+        let e : n - 0 ≡ length l.line.bytes = omega (arith, l.length_is) in
         ap (take (n - 0)) l.buffer ∙ rw e (take-filled l.line.bytes before)
 
-    one-step : (t : Table) → step t l.line ≡ act m t (kind (trimmed (take (n - 0) after)))
-    one-step t = short-step t l.line (omega (arith, l.fits, l.length-is)) ∙ rw (part, l.number_is)
+    one_step : (t : Table) → step t l.line ≡ act m t (kind (trimmed (take (n - 0) after)))
+    one_step t = short_step t l.line (omega (arith, l.fits, l.length_is)) ∙ rw (part, l.number_is)
 
-    pub line-goes : (s : State) → r ≡ Go s
+    pub line_goes : (s : State) → r ≡ Go s
         → ReadsLine f p text sections entries (TurnGo (record { cursor = q; state = s })) text' sections' entries'
-    line-goes s e t d a b h =
+    line_goes s e t d a b h =
         let x : LineTaken (act m t (kind (trimmed (take (n - 0) after)))) d text' a sections' b entries' (Go s) =
         subst (λ (z : Step). LineTaken (act m t (kind (trimmed (take (n - 0) after)))) d text' a sections' b entries' z) e (k t d a b h) in
         record {
           line = l.line;
           view = l.view;
           table = x.0;
-          outcome = one-step t ∙ x.1;
+          outcome = one_step t ∙ x.1;
           holds = x.2;
           inside = l.inside;
           later = l.later;
-          shorter = omega (arith, l.shorter, l.length-is);
+          shorter = omega (arith, l.shorter, l.length_is);
         }
 
-    pub line-stops : (w : Error) → r ≡ Refused w → ReadsLine f p text sections entries (TurnRefused w) text' sections' entries'
-    line-stops w e t d a b h =
-        let x : act m t (kind (trimmed (take (n - 0) after))) ≡ errorMeans w =
+    pub line_stops : (w : Error) → r ≡ Refused w → ReadsLine f p text sections entries (TurnRefused w) text' sections' entries'
+    line_stops w e t d a b h =
+        let x : act m t (kind (trimmed (take (n - 0) after))) ≡ error_means w =
         subst (λ (z : Step). LineTaken (act m t (kind (trimmed (take (n - 0) after)))) d text' a sections' b entries' z) e (k t d a b h) in
-        ap (run t) l.view ∙ run-stops t l.line (logicalFrom f q) _ _ (one-step t ∙ x)
+        ap (run t) l.view ∙ run_stops t l.line (logical_from f q) _ _ (one_step t ∙ x)
 
-  pub no_line : logicalFrom f p.cursor ≡ [] → ReadsLine f p text sections entries TurnEnd text sections entries
+  pub no_line : logical_from f p.cursor ≡ [] → ReadsLine f p text sections entries TurnEnd text sections entries
   no_line e t d a b h = (e, h)
 
-  pub long-line : (before after : Bytes) (w : FileError) → LongLine f p.cursor before after w
+  pub long_line : (before after : Bytes) (w : FileError) → LongLine f p.cursor before after w
       → ReadsLine f p text sections entries (TurnRefused (File w)) text sections entries
-  long-line before after w l t d a b h =
-      ap (run t) l.view ∙ run-stops t l.line l.others 5 l.line.number (long-step t l.line l.long)
+  long_line before after w l t d a b h =
+      ap (run t) l.view ∙ run_stops t l.line l.others 5 l.line.number (long_step t l.line l.long)
       ∙ rw (l.number, l.place)

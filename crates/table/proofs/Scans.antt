@@ -1,21 +1,21 @@
 -- Laws for the loops over a line: what is left from an index on decides.
 use Rattle.std.proofs.Common.{◌≡◌, ℕ, suc, ◌+◌, ◌-◌, ◌<◌, ◌≤◌, Bool, true, false, eqb, [], ◌∷◌, length, get_or, take, drop, sym, refl, ap, ◌∙◌, zero-add, arith, drop_of_length-le}
-use Rattle.lines.specs.Bytes.{Bytes, headerByte, all}
+use Rattle.lines.specs.Bytes.{Bytes, header_byte, all}
 use Rattle.lines.proofs.Bools.{impossible}
 use Rattle.lines.proofs.Slices.{opened}
-use Rattle.table.specs.LineKinds.{oneOrMore, ends_with, withoutLast, before, isHeader}
+use Rattle.table.specs.LineKinds.{one_or_more, ends_with, without_last, before, is_header}
 
 -- ---- one or more
 
-pub some-none : (p : ℕ → Bool) (l : Bytes) → length l ≡ 0 → oneOrMore p l ≡ false
-unfolding oneOrMore
-some-none p [] h = refl
-some-none p (b ∷ bs) h = absurd (omega arith)
+pub some_none : (p : ℕ → Bool) (l : Bytes) → length l ≡ 0 → one_or_more p l ≡ false
+unfolding one_or_more
+some_none p [] h = refl
+some_none p (b ∷ bs) h = absurd (omega arith)
 
-pub some-all : (p : ℕ → Bool) (l : Bytes) → 0 < length l → oneOrMore p l ≡ all p l
-unfolding oneOrMore
-some-all p [] h = absurd (omega arith)
-some-all p (b ∷ bs) h = refl
+pub some_all : (p : ℕ → Bool) (l : Bytes) → 0 < length l → one_or_more p l ≡ all p l
+unfolding one_or_more
+some_all p [] h = absurd (omega arith)
+some_all p (b ∷ bs) h = refl
 
 -- ---- up to a byte
 
@@ -24,25 +24,25 @@ abbrev pub Passing : ℕ → Bytes → ℕ → Type 0
 Passing c l i = length (before c l) ≡ i + length (before c (drop i l))
 
 module _ (c : ℕ) (l : Bytes) where
-  pub passing-start : Passing c l 0
-  passing-start = sym (zero-add _)
+  pub passing_start : Passing c l 0
+  passing_start = sym (zero-add _)
 
   module _ (i : ℕ) (p : Passing c l i) where
-    pub passing-found : i < length l → eqb (get_or l i 0) c ≡ true → i ≡ length (before c l)
+    pub passing_found : i < length l → eqb (get_or l i 0) c ≡ true → i ≡ length (before c l)
     unfolding before
-    passing-found h e =
+    passing_found h e =
         let q : length (before c (drop i l)) ≡ 0 = rw (opened l i h, e) in
         omega (arith, p, q)
 
-    pub passing-more : i < length l → eqb (get_or l i 0) c ≡ false → Passing c l (i + 1)
+    pub passing_more : i < length l → eqb (get_or l i 0) c ≡ false → Passing c l (i + 1)
     unfolding before
-    passing-more h e =
+    passing_more h e =
         let q : length (before c (drop i l)) ≡ suc (length (before c (drop (i + 1) l))) = rw (opened l i h, e) in
         omega (arith, p, q)
 
-    pub passing-over : length l ≤ i → i ≡ length (before c l)
+    pub passing_over : length l ≤ i → i ≡ length (before c l)
     unfolding before
-    passing-over h =
+    passing_over h =
         let q : length (before c (drop i l)) ≡ 0 = rw (drop_of_length-le l h) in
         omega (arith, p, q)
 
@@ -56,8 +56,8 @@ ends_at c (b ∷ d ∷ ds) h =
     let e : length (b ∷ d ∷ ds) - 1 ≡ suc (length (d ∷ ds) - 1) = omega arith in
     rw e (ends_at c (d ∷ ds) (omega arith))
 
-pub last_off : (l : Bytes) → withoutLast l ≡ take (length l - 1) l
-unfolding withoutLast
+pub last_off : (l : Bytes) → without_last l ≡ take (length l - 1) l
+unfolding without_last
 last_off [] = refl
 last_off (b ∷ []) = refl
 last_off (b ∷ c ∷ cs) =
@@ -65,25 +65,25 @@ last_off (b ∷ c ∷ cs) =
     rw e (ap (λ (l : Bytes). b ∷ l) (last_off (c ∷ cs)))
 
 -- the part that the code lends as the name
-pub name-part : (l : Bytes) → take (length l - 1 - 0) l ≡ withoutLast l
-name-part l =
+pub name_part : (l : Bytes) → take (length l - 1 - 0) l ≡ without_last l
+name_part l =
     let e : length l - 1 - 0 ≡ length l - 1 = omega arith in
     rw e (sym (last_off l))
 
-pub no_bytes : (l : Bytes) → length l ≡ 0 → isHeader l ≡ false
-unfolding isHeader
+pub no_bytes : (l : Bytes) → length l ≡ 0 → is_header l ≡ false
+unfolding is_header
 no_bytes [] e = refl
 no_bytes (b ∷ bs) e = absurd (omega arith)
 
-pub header-some : (l : Bytes) → isHeader l ≡ true → 0 < length l
-header-some [] e = impossible (sym (no_bytes [] refl) ∙ e)
-header-some (b ∷ bs) e = omega arith
+pub header_some : (l : Bytes) → is_header l ≡ true → 0 < length l
+header_some [] e = impossible (sym (no_bytes [] refl) ∙ e)
+header_some (b ∷ bs) e = omega arith
 
 module _ (l : Bytes) where
-  pub no-bracket : 0 < length l → eqb (get_or l (length l - 1) 0) 0x5D ≡ false → isHeader l ≡ false
-  unfolding isHeader
-  no-bracket h e = rw (ends_at 0x5D l h, e)
+  pub no_bracket : 0 < length l → eqb (get_or l (length l - 1) 0) 0x5D ≡ false → is_header l ≡ false
+  unfolding is_header
+  no_bracket h e = rw (ends_at 0x5D l h, e)
 
-  pub name-decides : 0 < length l → eqb (get_or l (length l - 1) 0) 0x5D ≡ true → isHeader l ≡ oneOrMore headerByte (withoutLast l)
-  unfolding isHeader
-  name-decides h e = rw (ends_at 0x5D l h, e)
+  pub name_decides : 0 < length l → eqb (get_or l (length l - 1) 0) 0x5D ≡ true → is_header l ≡ one_or_more header_byte (without_last l)
+  unfolding is_header
+  name_decides h e = rw (ends_at 0x5D l h, e)

@@ -5,34 +5,34 @@ use mathlib.Core.Option.{Option, none, some}
 use borrow.Author.Tests.{lt-leb}
 use Rattle.lines.specs.Bytes.{Bytes, equal}
 use Rattle.lines.specs.Buffers.{filled}
-use Rattle.lines.proofs.Bools.{by_cases, equal-eq}
-use Rattle.table.specs.Tables.{Event, newSection, newEntry, names, later, index_of}
-use Rattle.table.specs.Contents.{text_of, sectionRecord, recordsFrom}
+use Rattle.lines.proofs.Bools.{by_cases, equal_eq}
+use Rattle.table.specs.Tables.{Event, new_section, new_entry, names, later, index_of}
+use Rattle.table.specs.Contents.{text_of, section_record, records_from}
 use Rattle.table.proofs.Events.{Below, index_below}
 use Rattle.table.specs.Laws.{Apart}
-use Rattle.table.specs.Steps.{isNamed, firstNamed, SectionFound}
-use Rattle.table.proofs.TableLaws.{index-apart}
+use Rattle.table.specs.Steps.{is_named, first_named, SectionFound}
+use Rattle.table.proofs.TableLaws.{index_apart}
 
 -- ---- one pair
 
 module _ (x text : Bytes) (a n : ℕ) where
-  pub outside-text : length text < a + n → isNamed x text a n ≡ false
-  unfolding isNamed
-  outside-text h = rw (lt-leb (a + n) (length text) h)
+  pub outside_text : length text < a + n → is_named x text a n ≡ false
+  unfolding is_named
+  outside_text h = rw (lt-leb (a + n) (length text) h)
 
-  pub inside-text : a + n ≤ length text → isNamed x text a n ≡ equal x (take n (drop a text))
-  unfolding isNamed
-  inside-text h = rw (le-leb (a + n) (length text) h)
+  pub inside_text : a + n ≤ length text → is_named x text a n ≡ equal x (take n (drop a text))
+  unfolding is_named
+  inside_text h = rw (le-leb (a + n) (length text) h)
 
 -- ---- the loop
 
 -- the index of the pair, with i pairs passed of k
 abbrev pub Looking : (x text : Bytes) (k : ℕ) (ns : List ℕ) (i : ℕ) → Type 0
-Looking x text k ns i = (i ≤ k) × (firstNamed x text k ns ≡ i + firstNamed x text (k - i) (drop (2 * i) ns))
+Looking x text k ns i = (i ≤ k) × (first_named x text k ns ≡ i + first_named x text (k - i) (drop (2 * i) ns))
 
 module _ (x text : Bytes) (k : ℕ) (ns : List ℕ) where
-  pub looking-start : Looking x text k ns 0
-  looking-start =
+  pub looking_start : Looking x text k ns 0
+  looking_start =
       let e : k - 0 ≡ k = omega arith in
       (omega arith, rw e (sym (zero-add _)))
 
@@ -47,47 +47,47 @@ module _ (x text : Bytes) (k : ℕ) (ns : List ℕ) where
         ∙ rw (e, o)
 
     here : i < k → 2 * k ≤ length ns
-        → firstNamed x text (k - i) (drop (2 * i) ns)
-        ≡ firstNamed x text (suc (k - (i + 1))) (get_or ns (2 * i) 0 ∷ get_or ns (2 * i + 1) 0 ∷ drop (2 * (i + 1)) ns)
+        → first_named x text (k - i) (drop (2 * i) ns)
+        ≡ first_named x text (suc (k - (i + 1))) (get_or ns (2 * i) 0 ∷ get_or ns (2 * i + 1) 0 ∷ drop (2 * (i + 1)) ns)
     here h m =
         let e : k - i ≡ suc (k - (i + 1)) = omega arith in
         rw (two h m, e)
 
-    pub looking-more : i < k → 2 * k ≤ length ns → isNamed x text (get_or ns (2 * i) 0) (get_or ns (2 * i + 1) 0) ≡ false
+    pub looking_more : i < k → 2 * k ≤ length ns → is_named x text (get_or ns (2 * i) 0) (get_or ns (2 * i + 1) 0) ≡ false
         → Looking x text k ns (i + 1)
-    unfolding firstNamed
-    looking-more h m e =
-        let q : firstNamed x text (k - i) (drop (2 * i) ns) ≡ suc (firstNamed x text (k - (i + 1)) (drop (2 * (i + 1)) ns)) = here h m ∙ rw e in
+    unfolding first_named
+    looking_more h m e =
+        let q : first_named x text (k - i) (drop (2 * i) ns) ≡ suc (first_named x text (k - (i + 1)) (drop (2 * (i + 1)) ns)) = here h m ∙ rw e in
         (omega arith, omega (arith, l.1, q))
 
-    pub looking-over : k ≤ i → SectionFound x text k ns i
-    unfolding firstNamed
-    looking-over h =
+    pub looking_over : k ≤ i → SectionFound x text k ns i
+    unfolding first_named
+    looking_over h =
         let e : k - i ≡ 0 = omega arith in
-        let q : firstNamed x text (k - i) (drop (2 * i) ns) ≡ 0 = rw e in
+        let q : first_named x text (k - i) (drop (2 * i) ns) ≡ 0 = rw e in
         record { known = λ m. absurd (omega arith); new = λ m. omega (arith, l.0, l.1, q) }
 
   -- a pair that is the name
-  pub found-pair : (i : ℕ) → i < k → isNamed x text (get_or ns (2 * i) 0) (get_or ns (2 * i + 1) 0) ≡ true → SectionFound x text k ns i
-  found-pair i h e = record { known = λ m. e; new = λ m. absurd (omega arith) }
+  pub found_pair : (i : ℕ) → i < k → is_named x text (get_or ns (2 * i) 0) (get_or ns (2 * i + 1) 0) ≡ true → SectionFound x text k ns i
+  found_pair i h e = record { known = λ m. e; new = λ m. absurd (omega arith) }
 
 -- ---- the sections of a table: the first that is the name
 
 -- an index, or the number of all where there is none
-abbrev indexOr : ℕ → Option ℕ → ℕ
-indexOr n none = n
-indexOr n (some i) = i
+abbrev index_or : ℕ → Option ℕ → ℕ
+index_or n none = n
+index_or n (some i) = i
 
-index-later : (n : ℕ) (o : Option ℕ) → suc (indexOr n o) ≡ indexOr (suc n) (later o)
-index-later n none = refl
-index-later n (some i) = refl
+index_later : (n : ℕ) (o : Option ℕ) → suc (index_or n o) ≡ index_or (suc n) (later o)
+index_later n none = refl
+index_later n (some i) = refl
 
 -- the name that stands in the text behind other bytes
-named-part : (x pre y post : Bytes) → isNamed x (pre ++ (y ++ post)) (length pre) (length y) ≡ equal x y
-named-part x pre y post =
+named_part : (x pre y post : Bytes) → is_named x (pre ++ (y ++ post)) (length pre) (length y) ≡ equal x y
+named_part x pre y post =
     let l : length (pre ++ (y ++ post)) ≡ length pre + (length y + length post) =
     length-append pre (y ++ post) ∙ ap (λ (n : ℕ). length pre + n) (length-append y post) in
-    inside-text x (pre ++ (y ++ post)) (length pre) (length y) (omega arith)
+    inside_text x (pre ++ (y ++ post)) (length pre) (length y) (omega arith)
     ∙ rw (drop_at pre (y ++ post) (length pre) refl, take_at y post (length y) refl)
 
 -- the text of the first event goes to the bytes before
@@ -95,63 +95,63 @@ regrouped : (pre y z post : Bytes) → pre ++ ((y ++ z) ++ post) ≡ (pre ++ y) 
 regrouped pre y z post = ap (λ (l : Bytes). pre ++ l) (append_assoc y z post) ∙ sym (append_assoc pre y (z ++ post))
 
 -- the events' text behind other bytes
-search-events : (es : List Event) (x pre post : Bytes) (rest : List ℕ)
-    → firstNamed x (pre ++ (text_of es ++ post)) (length (names es)) (recordsFrom sectionRecord (length pre) es ++ rest)
-    ≡ indexOr (length (names es)) (index_of x (names es))
-unfolding firstNamed text_of names recordsFrom index_of
-search-events [] x pre post rest = refl
-search-events (newSection y ∷ es) x pre post rest =
+search_events : (es : List Event) (x pre post : Bytes) (rest : List ℕ)
+    → first_named x (pre ++ (text_of es ++ post)) (length (names es)) (records_from section_record (length pre) es ++ rest)
+    ≡ index_or (length (names es)) (index_of x (names es))
+unfolding first_named text_of names records_from index_of
+search_events [] x pre post rest = refl
+search_events (new_section y ∷ es) x pre post rest =
     let s : pre ++ ((y ++ text_of es) ++ post) ≡ pre ++ (y ++ (text_of es ++ post)) = ap (λ (l : Bytes). pre ++ l) (append_assoc y (text_of es) post) in
     let p : pre ++ (y ++ (text_of es ++ post)) ≡ (pre ++ y) ++ (text_of es ++ post) = sym (append_assoc pre y (text_of es ++ post)) in
     by_cases (equal x y)
-    (λ e. rw (s, named-part x pre y (text_of es ++ post), e))
-    (λ e. rw (s, named-part x pre y (text_of es ++ post), e, p, ← length-append pre y, search-events es x (pre ++ y) post rest)
-    (index-later (length (names es)) (index_of x (names es))))
-search-events (newEntry f ∷ es) x pre post rest =
+    (λ e. rw (s, named_part x pre y (text_of es ++ post), e))
+    (λ e. rw (s, named_part x pre y (text_of es ++ post), e, p, ← length-append pre y, search_events es x (pre ++ y) post rest)
+    (index_later (length (names es)) (index_of x (names es))))
+search_events (new_entry f ∷ es) x pre post rest =
     let y : Bytes = f.key ++ f.value in
-    rw (regrouped pre y (text_of es) post, ← length-append pre y) (search-events es x (pre ++ y) post rest)
+    rw (regrouped pre y (text_of es) post, ← length-append pre y) (search_events es x (pre ++ y) post rest)
 
-search-table : (es : List Event) (x d : Bytes) (e : List ℕ)
-    → firstNamed x (filled (text_of es) d) (length (names es)) (filled (recordsFrom sectionRecord 0 es) e)
-    ≡ indexOr (length (names es)) (index_of x (names es))
-search-table es x d e = search-events es x [] (drop (length (text_of es)) d) (drop (length (recordsFrom sectionRecord 0 es)) e)
+search_table : (es : List Event) (x d : Bytes) (e : List ℕ)
+    → first_named x (filled (text_of es) d) (length (names es)) (filled (records_from section_record 0 es) e)
+    ≡ index_or (length (names es)) (index_of x (names es))
+search_table es x d e = search_events es x [] (drop (length (text_of es)) d) (drop (length (records_from section_record 0 es)) e)
 
 -- where no pair is the name, it is new
-pub table-new : (es : List Event) (x d : Bytes) (e : List ℕ)
-    → firstNamed x (filled (text_of es) d) (length (names es)) (filled (recordsFrom sectionRecord 0 es) e) ≡ length (names es)
+pub table_new : (es : List Event) (x d : Bytes) (e : List ℕ)
+    → first_named x (filled (text_of es) d) (length (names es)) (filled (records_from section_record 0 es) e) ≡ length (names es)
     → index_of x (names es) ≡ none
-table-new es x d e h = go (index_of x (names es)) (index_below (names es) x) (sym (search-table es x d e) ∙ h)
+table_new es x d e h = go (index_of x (names es)) (index_below (names es) x) (sym (search_table es x d e) ∙ h)
   where
-    go : (o : Option ℕ) → Below (length (names es)) o → indexOr (length (names es)) o ≡ length (names es) → o ≡ none
+    go : (o : Option ℕ) → Below (length (names es)) o → index_or (length (names es)) o ≡ length (names es) → o ≡ none
     go none b q = refl
     go (some j) b q = absurd (omega arith)
 
 -- ---- the sections of a table: any that is the name
 
 -- the pair at an index is the name where the name at that index is
-pair-events : (es : List Event) (i : ℕ) (x pre post : Bytes) (rest : List ℕ) → i < length (names es)
-    → isNamed x (pre ++ (text_of es ++ post))
-    (get_or (recordsFrom sectionRecord (length pre) es ++ rest) (2 * i) 0) (get_or (recordsFrom sectionRecord (length pre) es ++ rest) (2 * i + 1) 0)
+pair_events : (es : List Event) (i : ℕ) (x pre post : Bytes) (rest : List ℕ) → i < length (names es)
+    → is_named x (pre ++ (text_of es ++ post))
+    (get_or (records_from section_record (length pre) es ++ rest) (2 * i) 0) (get_or (records_from section_record (length pre) es ++ rest) (2 * i + 1) 0)
     ≡ equal x (get_or (names es) i [])
-unfolding text_of names recordsFrom
-pair-events [] i x pre post rest h = absurd (omega arith)
-pair-events (newSection y ∷ es) zero x pre post rest h =
+unfolding text_of names records_from
+pair_events [] i x pre post rest h = absurd (omega arith)
+pair_events (new_section y ∷ es) zero x pre post rest h =
     let s : pre ++ ((y ++ text_of es) ++ post) ≡ pre ++ (y ++ (text_of es ++ post)) = ap (λ (l : Bytes). pre ++ l) (append_assoc y (text_of es) post) in
-    rw s (named-part x pre y (text_of es ++ post))
-pair-events (newSection y ∷ es) (suc i) x pre post rest h =
+    rw s (named_part x pre y (text_of es ++ post))
+pair_events (new_section y ∷ es) (suc i) x pre post rest h =
     let a : 2 * suc i ≡ suc (suc (2 * i)) = omega arith in
     let b : suc (suc (2 * i)) + 1 ≡ suc (suc (2 * i + 1)) = omega arith in
-    rw (regrouped pre y (text_of es) post, a, b, ← length-append pre y) (pair-events es i x (pre ++ y) post rest (omega arith))
-pair-events (newEntry f ∷ es) i x pre post rest h =
+    rw (regrouped pre y (text_of es) post, a, b, ← length-append pre y) (pair_events es i x (pre ++ y) post rest (omega arith))
+pair_events (new_entry f ∷ es) i x pre post rest h =
     let y : Bytes = f.key ++ f.value in
-    rw (regrouped pre y (text_of es) post, ← length-append pre y) (pair-events es i x (pre ++ y) post rest h)
+    rw (regrouped pre y (text_of es) post, ← length-append pre y) (pair_events es i x (pre ++ y) post rest h)
 
 -- so a pair that is the name has the name's index
-pub table-known : (es : List Event) (x d : Bytes) (e : List ℕ) (i : ℕ) → Apart [] (names es) → i < length (names es)
-    → isNamed x (filled (text_of es) d)
-    (get_or (filled (recordsFrom sectionRecord 0 es) e) (2 * i) 0) (get_or (filled (recordsFrom sectionRecord 0 es) e) (2 * i + 1) 0) ≡ true
+pub table_known : (es : List Event) (x d : Bytes) (e : List ℕ) (i : ℕ) → Apart [] (names es) → i < length (names es)
+    → is_named x (filled (text_of es) d)
+    (get_or (filled (records_from section_record 0 es) e) (2 * i) 0) (get_or (filled (records_from section_record 0 es) e) (2 * i + 1) 0) ≡ true
     → index_of x (names es) ≡ some i
-table-known es x d e i a l h =
+table_known es x d e i a l h =
     let n : equal x (get_or (names es) i []) ≡ true =
-    sym (pair-events es i x [] (drop (length (text_of es)) d) (drop (length (recordsFrom sectionRecord 0 es)) e) l) ∙ h in
-    ap (λ (z : Bytes). index_of z (names es)) (equal-eq x (get_or (names es) i []) n) ∙ index-apart (names es) [] i a l ∙ ap some (zero-add i)
+    sym (pair_events es i x [] (drop (length (text_of es)) d) (drop (length (records_from section_record 0 es)) e) l) ∙ h in
+    ap (λ (z : Bytes). index_of z (names es)) (equal_eq x (get_or (names es) i []) n) ∙ index_apart (names es) [] i a l ∙ ap some (zero-add i)

@@ -4,92 +4,92 @@ use mathlib.Core.Option.{Option, none, some}
 use Rattle.lines.specs.Bytes.{Bytes}
 use Rattle.lines.specs.Buffers.{filled}
 use Rattle.table.specs.LineKinds.{header, entry}
-use Rattle.table.specs.Tables.{entryIn, newSection, newEntry, Table, with, names, entries, index_of, opened, added, act}
-use Rattle.table.specs.Contents.{text_of, sectionRecord, entryRecord, recordsFrom}
-use Rattle.table.specs.Steps.{SectionFound, currentOf, SectionPut, EntryPut, Held, TakesHeader, TakesEntry}
+use Rattle.table.specs.Tables.{entry_in, new_section, new_entry, Table, with, names, entries, index_of, opened, added, act}
+use Rattle.table.specs.Contents.{text_of, section_record, entry_record, records_from}
+use Rattle.table.specs.Steps.{SectionFound, current_of, SectionPut, EntryPut, Held, TakesHeader, TakesEntry}
 use Rattle.table.specs.declared.error.Error.TheVariants.{NoSection, TooMany}
 use Rattle.table.specs.declared.state.State.{State}
 use Rattle.table.specs.declared.state.Step.TheVariants.{Go, Refused}
-use Rattle.table.proofs.Search.{table-known, table-new}
-use Rattle.table.proofs.Puts.{numbers-kept, same-counts, section-held, entry-held}
+use Rattle.table.proofs.Search.{table_known, table_new}
+use Rattle.table.proofs.Puts.{numbers_kept, same_counts, section_held, entry-held}
 
 -- ---- a header
 
 module _ (x : Bytes) (n : ℕ) (s : State) (text : Bytes) (sections : List ℕ) (i : ℕ)
     (f : SectionFound x text s.sections sections i) where
-  module _ (t : Table) (d : Bytes) (e : List ℕ) (h : Held sectionRecord t s d text e sections) where
+  module _ (t : Table) (d : Bytes) (e : List ℕ) (h : Held section_record t s d text e sections) where
     -- what was found, in the buffers of the table that is held
-    found : SectionFound x (filled (text_of t.events) d) (length (names t.events)) (filled (recordsFrom sectionRecord 0 t.events) e) i
+    found : SectionFound x (filled (text_of t.events) d) (length (names t.events)) (filled (records_from section_record 0 t.events) e) i
     found =
-        subst (λ (z : List ℕ). SectionFound x (filled (text_of t.events) d) (length (names t.events)) z i) h.numbers-are
-        (subst (λ (z : Bytes). SectionFound x z (length (names t.events)) sections i) h.text-is
+        subst (λ (z : List ℕ). SectionFound x (filled (text_of t.events) d) (length (names t.events)) z i) h.numbers_are
+        (subst (λ (z : Bytes). SectionFound x z (length (names t.events)) sections i) h.text_is
         (subst (λ (z : State). SectionFound x text z.sections sections i) h.state f))
 
     counted : s.sections ≡ length (names t.events)
     counted = ap (λ (z : State). z.sections) h.state
 
-    index-known : i < s.sections → index_of x (names t.events) ≡ some i
-    index-known l =
+    index_known : i < s.sections → index_of x (names t.events) ≡ some i
+    index_known l =
         let m : i < length (names t.events) = omega (arith, counted) in
-        table-known t.events x d e i h.apart m (found.known m)
+        table_known t.events x d e i h.apart m (found.known m)
 
-    index-new : s.sections ≤ i → index_of x (names t.events) ≡ none
-    index-new l = table-new t.events x d e (found.new (omega (arith, counted)))
+    index_new : s.sections ≤ i → index_of x (names t.events) ≡ none
+    index_new l = table_new t.events x d e (found.new (omega (arith, counted)))
 
   -- it goes on with an earlier section
-  pub header-known : i < s.sections
+  pub header_known : i < s.sections
       → TakesHeader (header x) n s text sections (Go (record { text = s.text; sections = s.sections; entries = s.entries; current = i + 1 })) text sections
   unfolding act opened
-  header-known l t d e h =
+  header_known l t d e h =
       record {
         table = record { events = t.events; current = some i };
-        outcome = rw (index-known t d e h l);
+        outcome = rw (index_known t d e h l);
         held = record {
           apart = h.apart;
           state =
               ap (λ (z : State). record { text = z.text; sections = z.sections; entries = z.entries; current = i + 1 }) h.state
-              ∙ same-counts _ _ _ _ _ _ _ _ refl refl refl (omega arith);
-          text-is = h.text-is;
-          numbers-are = h.numbers-are;
+              ∙ same_counts _ _ _ _ _ _ _ _ refl refl refl (omega arith);
+          text_is = h.text_is;
+          numbers_are = h.numbers_are;
         };
         others = refl;
       }
 
   -- the 65th section
-  pub header-many : s.sections ≤ i → 64 ≤ s.sections → TakesHeader (header x) n s text sections (Refused (TooMany n)) text sections
+  pub header_many : s.sections ≤ i → 64 ≤ s.sections → TakesHeader (header x) n s text sections (Refused (TooMany n)) text sections
   unfolding act opened
-  header-many l m t d e h =
-      rw (index-new t d e h l, le-ltb (length (names t.events)) 64 (omega (arith, counted t d e h)))
+  header_many l m t d e h =
+      rw (index_new t d e h l, le-ltb (length (names t.events)) 64 (omega (arith, counted t d e h)))
 
   -- a new section
-  pub header-new : s.sections ≤ i → s.sections < 64 → (r : State) (text' : Bytes) (sections' : List ℕ)
+  pub header_new : s.sections ≤ i → s.sections < 64 → (r : State) (text' : Bytes) (sections' : List ℕ)
       → SectionPut x s text sections r text' sections' → TakesHeader (header x) n s text sections (Go r) text' sections'
   unfolding act opened
-  header-new l m r text' sections' p t d e h =
+  header_new l m r text' sections' p t d e h =
       record {
-        table = with t (newSection x) (length (names t.events));
-        outcome = rw (index-new t d e h l, lt-ltb (length (names t.events)) 64 (omega (arith, counted t d e h)));
-        held = section-held t d e x (index-new t d e h l) s text sections h r text' sections' p;
-        others = numbers-kept t.events (newSection x) entryRecord refl;
+        table = with t (new_section x) (length (names t.events));
+        outcome = rw (index_new t d e h l, lt-ltb (length (names t.events)) 64 (omega (arith, counted t d e h)));
+        held = section_held t d e x (index_new t d e h l) s text sections h r text' sections' p;
+        others = numbers_kept t.events (new_section x) entry_record refl;
       }
 
 -- ---- an entry
 
 -- what the section that is open says of the table
-open_in : (o : Option ℕ) → (currentOf o ≡ 0 → ⊥) → o ≡ some (currentOf o - 1)
+open_in : (o : Option ℕ) → (current_of o ≡ 0 → ⊥) → o ≡ some (current_of o - 1)
 open_in none q = absurd (q refl)
 open_in (some j) q = ap some (omega arith)
 
-open-out : (o : Option ℕ) → currentOf o ≡ 0 → o ≡ none
-open-out none q = refl
-open-out (some j) q = absurd (omega arith)
+open_out : (o : Option ℕ) → current_of o ≡ 0 → o ≡ none
+open_out none q = refl
+open_out (some j) q = absurd (omega arith)
 
 module _ (k v : Bytes) (n : ℕ) (s : State) (text : Bytes) (numbers : List ℕ) where
   -- before any header
-  pub entry-outside : s.current ≡ 0 → TakesEntry (entry k v) n s text numbers (Refused (NoSection n)) text numbers
+  pub entry_outside : s.current ≡ 0 → TakesEntry (entry k v) n s text numbers (Refused (NoSection n)) text numbers
   unfolding act added
-  entry-outside q t d e h =
-      let o : t.current ≡ none = open-out t.current (sym (ap (λ (z : State). z.current) h.state) ∙ q) in
+  entry_outside q t d e h =
+      let o : t.current ≡ none = open_out t.current (sym (ap (λ (z : State). z.current) h.state) ∙ q) in
       rw o
 
   module _ (q : s.current ≡ 0 → ⊥) where
@@ -97,15 +97,15 @@ module _ (k v : Bytes) (n : ℕ) (s : State) (text : Bytes) (numbers : List ℕ)
     abbrev i : ℕ
     i = s.current - 1
 
-    inside : (t : Table) (d : Bytes) (e : List ℕ) → Held entryRecord t s d text e numbers → t.current ≡ some i
+    inside : (t : Table) (d : Bytes) (e : List ℕ) → Held entry_record t s d text e numbers → t.current ≡ some i
     inside t d e h =
-        let c : s.current ≡ currentOf t.current = ap (λ (z : State). z.current) h.state in
+        let c : s.current ≡ current_of t.current = ap (λ (z : State). z.current) h.state in
         open_in t.current (λ z. q (c ∙ z)) ∙ ap (λ (z : ℕ). some (z - 1)) (sym c)
 
     -- the 513th
-    pub entry-many : 512 ≤ s.entries → TakesEntry (entry k v) n s text numbers (Refused (TooMany n)) text numbers
+    pub entry_many : 512 ≤ s.entries → TakesEntry (entry k v) n s text numbers (Refused (TooMany n)) text numbers
     unfolding act added
-    entry-many m t d e h =
+    entry_many m t d e h =
         let c : s.entries ≡ length (entries t.events) = ap (λ (z : State). z.entries) h.state in
         rw (inside t d e h, le-ltb (length (entries t.events)) 512 (omega arith))
 
@@ -116,8 +116,8 @@ module _ (k v : Bytes) (n : ℕ) (s : State) (text : Bytes) (numbers : List ℕ)
     entry_new m l r text' numbers' p t d e h =
         let c : s.entries ≡ length (entries t.events) = ap (λ (z : State). z.entries) h.state in
         record {
-          table = with t (newEntry (entryIn i k v)) i;
+          table = with t (new_entry (entry_in i k v)) i;
           outcome = rw (inside t d e h, lt-ltb (length (entries t.events)) 512 (omega arith));
           held = entry-held t d e i k v (inside t d e h) s text numbers h l r text' numbers' p;
-          others = numbers-kept t.events (newEntry (entryIn i k v)) sectionRecord refl;
+          others = numbers_kept t.events (new_entry (entry_in i k v)) section_record refl;
         }

@@ -1,73 +1,73 @@
 -- One logical line more in a table that the buffers hold: its kind, by the tests that the code makes on its bytes.
 use Rattle.std.proofs.Common.{◌≡◌, ℕ, suc, ◌+◌, ◌-◌, ◌<◌, ◌≤◌, true, false, eqb, List, [], ◌∷◌, ◌++◌, length, get_or, take, drop, sym, refl, ap, ◌∙◌, subst, arith, length-append, length-take, take_at, eq-eqb, ne_eqb}
-use Rattle.lines.specs.Bytes.{Bytes, keyByte, any}
-use Rattle.lines.specs.Trim.{trimStart, trimEnd, trimmed}
+use Rattle.lines.specs.Bytes.{Bytes, key_byte, any}
+use Rattle.lines.specs.Trim.{trim_start, trim_end, trimmed}
 use Rattle.lines.specs.Answers.{Outcome}
 use Rattle.lines.specs.Buffers.{filled}
 use Rattle.lines.proofs.Bools.{by_cases, is_false}
-use Rattle.lines.proofs.Slices.{part-from}
-use Rattle.lines.proofs.Trimming.{length-trimStart, length-trimEnd, length-trim}
-use Rattle.table.specs.LineKinds.{Kind, header, entry, oneOrMore, before, behind, isHeader, headerKind, isEqualsSign, key_of, value_of, entryKind, kind}
+use Rattle.lines.proofs.Slices.{part_from}
+use Rattle.lines.proofs.Trimming.{length-trim_start, length-trim_end, length_trim}
+use Rattle.table.specs.LineKinds.{Kind, header, entry, one_or_more, before, behind, is_header, header_kind, is_equals_sign, key_of, value_of, entry_kind, kind}
 use Rattle.table.specs.Tables.{Event, Table, act}
-use Rattle.table.specs.Contents.{sectionRecord, entryRecord}
+use Rattle.table.specs.Contents.{section_record, entry_record}
 use Rattle.table.specs.Steps.{Holds, StepTaken, Takes, TakesHeader, TakesEntry, LineTaken, TakesLine}
 use Rattle.table.specs.declared.error.Error.TheVariants.{BadHeader, NoEqualsSign, BadKey}
 use Rattle.table.specs.declared.state.State.{State}
 use Rattle.table.specs.declared.state.Step.{Step}
 use Rattle.table.specs.declared.state.Step.TheVariants.{Go, Refused}
 use Rattle.table.proofs.Parts.{parted}
-use Rattle.table.proofs.Scans.{name-part}
+use Rattle.table.proofs.Scans.{name_part}
 
 -- a line is taken for the kind that it is
-as-kind : (f g : ℕ → Event → List ℕ) (k k' : Kind) (n : ℕ) (s : State) (text : Bytes) (numbers : List ℕ) (r : Step) (text' : Bytes) (numbers' : List ℕ)
+as_kind : (f g : ℕ → Event → List ℕ) (k k' : Kind) (n : ℕ) (s : State) (text : Bytes) (numbers : List ℕ) (r : Step) (text' : Bytes) (numbers' : List ℕ)
     → k ≡ k' → Takes f g k n s text numbers r text' numbers' → Takes f g k' n s text numbers r text' numbers'
-as-kind f g k k' n s text numbers r text' numbers' e h = subst (λ (z : Kind). Takes f g z n s text numbers r text' numbers') e h
+as_kind f g k k' n s text numbers r text' numbers' e h = subst (λ (z : Kind). Takes f g z n s text numbers r text' numbers') e h
 
 -- ---- a line that starts with [
 
 module _ (l : Bytes) (n : ℕ) (s : State) (text : Bytes) (sections : List ℕ) where
-  pub header-bad : isHeader l ≡ false → TakesHeader (headerKind l) n s text sections (Refused (BadHeader n)) text sections
-  unfolding headerKind act
-  header-bad e t d f h = rw e
+  pub header_bad : is_header l ≡ false → TakesHeader (header_kind l) n s text sections (Refused (BadHeader n)) text sections
+  unfolding header_kind act
+  header_bad e t d f h = rw e
 
-  pub header-good : isHeader l ≡ true → (r : Step) (text' : Bytes) (sections' : List ℕ)
+  pub header_good : is_header l ≡ true → (r : Step) (text' : Bytes) (sections' : List ℕ)
       → TakesHeader (header (take (length l - 1 - 0) l)) n s text sections r text' sections'
-      → TakesHeader (headerKind l) n s text sections r text' sections'
-  unfolding headerKind
-  header-good e r text' sections' h =
-      as-kind sectionRecord entryRecord (header (take (length l - 1 - 0) l)) (headerKind l) n s text sections r text' sections'
-      (ap header (name-part l) ∙ rw e) h
+      → TakesHeader (header_kind l) n s text sections r text' sections'
+  unfolding header_kind
+  header_good e r text' sections' h =
+      as_kind section_record entry_record (header (take (length l - 1 - 0) l)) (header_kind l) n s text sections r text' sections'
+      (ap header (name_part l) ∙ rw e) h
 
 -- ---- another line
 
 -- with a sign before its end
-sign-there : (l : Bytes) → length (before 0x3D l) < length l → any isEqualsSign l ≡ true
+sign_there : (l : Bytes) → length (before 0x3D l) < length l → any is_equals_sign l ≡ true
 unfolding before any
-sign-there [] h = absurd (omega arith)
-sign-there (b ∷ bs) h =
+sign_there [] h = absurd (omega arith)
+sign_there (b ∷ bs) h =
     by_cases (eqb b 0x3D) (λ e. rw e)
-    (λ e. rw e (sign-there bs (let k : length (before 0x3D (b ∷ bs)) ≡ suc (length (before 0x3D bs)) = rw e in omega (arith, h, k))))
+    (λ e. rw e (sign_there bs (let k : length (before 0x3D (b ∷ bs)) ≡ suc (length (before 0x3D bs)) = rw e in omega (arith, h, k))))
 
 -- without one
-no_sign : (l : Bytes) → length l ≤ length (before 0x3D l) → any isEqualsSign l ≡ false
+no_sign : (l : Bytes) → length l ≤ length (before 0x3D l) → any is_equals_sign l ≡ false
 no_sign l h =
-    is_false (any isEqualsSign l)
+    is_false (any is_equals_sign l)
     (λ e. omega (arith, ap length (parted 0x3D l e), length-append (before 0x3D l) (0x3D ∷ behind 0x3D l)))
 
 module _ (l : Bytes) (at : ℕ) (f : at ≡ length (before 0x3D l)) (h : at < length l) where
-  there : any isEqualsSign l ≡ true
-  there = sign-there l (omega arith)
+  there : any is_equals_sign l ≡ true
+  there = sign_there l (omega arith)
 
   -- the parts that the code lends
-  key-part : take (at - 0) l ≡ before 0x3D l
-  key-part =
+  key_part : take (at - 0) l ≡ before 0x3D l
+  key_part =
       let e : at - 0 ≡ at = omega arith in
       rw e (ap (take at) (parted 0x3D l there) ∙ take_at (before 0x3D l) (0x3D ∷ behind 0x3D l) at (sym f))
 
   value-part : take (length l - (at + 1)) (drop (at + 1) l) ≡ behind 0x3D l
   value-part =
       let e : at + 1 ≡ suc at = omega arith in
-      part-from (at + 1) l ∙ rw e (ap (drop (suc at)) (parted 0x3D l there) ∙ drop-behind (before 0x3D l) at f)
+      part_from (at + 1) l ∙ rw e (ap (drop (suc at)) (parted 0x3D l there) ∙ drop-behind (before 0x3D l) at f)
     where
       drop-behind : (a : Bytes) (n : ℕ) → n ≡ length a → drop (suc n) (a ++ 0x3D ∷ behind 0x3D l) ≡ behind 0x3D l
       drop-behind a n q = rw q (go a)
@@ -76,79 +76,79 @@ module _ (l : Bytes) (at : ℕ) (f : at ≡ length (before 0x3D l)) (h : at < le
           go [] = refl
           go (b ∷ bs) = go bs
 
-  module _ (k v : Bytes) (p : k ≡ trimEnd (take (at - 0) l)) (q : v ≡ trimStart (take (length l - (at + 1)) (drop (at + 1) l))) where
-    key-is : k ≡ key_of l
+  module _ (k v : Bytes) (p : k ≡ trim_end (take (at - 0) l)) (q : v ≡ trim_start (take (length l - (at + 1)) (drop (at + 1) l))) where
+    key_is : k ≡ key_of l
     unfolding key_of
-    key-is = p ∙ ap trimEnd key-part
+    key_is = p ∙ ap trim_end key_part
 
-    value-is : v ≡ value_of l
+    value_is : v ≡ value_of l
     unfolding value_of
-    value-is = q ∙ ap trimStart value-part
+    value_is = q ∙ ap trim_start value-part
 
     -- they fit where the line did
-    pub parts-fit : length k + length v ≤ length l
-    parts-fit =
-        let a : length k ≤ length (take (at - 0) l) = rw p (length-trimEnd (take (at - 0) l)) in
-        let b : length v ≤ length (take (length l - (at + 1)) (drop (at + 1) l)) = rw q (length-trimStart (take (length l - (at + 1)) (drop (at + 1) l))) in
+    pub parts_fit : length k + length v ≤ length l
+    parts_fit =
+        let a : length k ≤ length (take (at - 0) l) = rw p (length-trim_end (take (at - 0) l)) in
+        let b : length v ≤ length (take (length l - (at + 1)) (drop (at + 1) l)) = rw q (length-trim_start (take (length l - (at + 1)) (drop (at + 1) l))) in
         omega (arith, a, b, length-take (at - 0) l, length-take (length l - (at + 1)) (drop (at + 1) l))
 
     module _ (n : ℕ) (s : State) (text : Bytes) (entries : List ℕ) where
-      pub key-bad : oneOrMore keyByte k ≡ false → TakesEntry (entryKind l) n s text entries (Refused (BadKey n)) text entries
-      unfolding entryKind act
-      key-bad e t d g h =
-          let m : oneOrMore keyByte (key_of l) ≡ false = ap (oneOrMore keyByte) (sym key-is) ∙ e in
+      pub key_bad : one_or_more key_byte k ≡ false → TakesEntry (entry_kind l) n s text entries (Refused (BadKey n)) text entries
+      unfolding entry_kind act
+      key_bad e t d g h =
+          let m : one_or_more key_byte (key_of l) ≡ false = ap (one_or_more key_byte) (sym key_is) ∙ e in
           rw (there, m)
 
-      pub key-good : oneOrMore keyByte k ≡ true → (r : Step) (text' : Bytes) (entries' : List ℕ)
-          → TakesEntry (entry k v) n s text entries r text' entries' → TakesEntry (entryKind l) n s text entries r text' entries'
-      unfolding entryKind
-      key-good e r text' entries' h =
-          let m : oneOrMore keyByte (key_of l) ≡ true = ap (oneOrMore keyByte) (sym key-is) ∙ e in
-          as-kind entryRecord sectionRecord (entry k v) (entryKind l) n s text entries r text' entries'
-          (rw (key-is, value-is, there, m)) h
+      pub key_good : one_or_more key_byte k ≡ true → (r : Step) (text' : Bytes) (entries' : List ℕ)
+          → TakesEntry (entry k v) n s text entries r text' entries' → TakesEntry (entry_kind l) n s text entries r text' entries'
+      unfolding entry_kind
+      key_good e r text' entries' h =
+          let m : one_or_more key_byte (key_of l) ≡ true = ap (one_or_more key_byte) (sym key_is) ∙ e in
+          as_kind entry_record section_record (entry k v) (entry_kind l) n s text entries r text' entries'
+          (rw (key_is, value_is, there, m)) h
 
-pub sign-missing : (l : Bytes) (at : ℕ) → at ≡ length (before 0x3D l) → length l ≤ at
-    → (n : ℕ) (s : State) (text : Bytes) (entries : List ℕ) → TakesEntry (entryKind l) n s text entries (Refused (NoEqualsSign n)) text entries
-unfolding entryKind act
-sign-missing l at f h n s text entries t d g k = rw (no_sign l (omega arith))
+pub sign_missing : (l : Bytes) (at : ℕ) → at ≡ length (before 0x3D l) → length l ≤ at
+    → (n : ℕ) (s : State) (text : Bytes) (entries : List ℕ) → TakesEntry (entry_kind l) n s text entries (Refused (NoEqualsSign n)) text entries
+unfolding entry_kind act
+sign_missing l at f h n s text entries t d g k = rw (no_sign l (omega arith))
 
 -- ---- any line
 
 -- what a step leaves in one buffer of numbers, and in both
 module _ (t : Table) (o : Outcome Table) (s : State) (d text text' : Bytes) (e sections sections' g entries entries' : List ℕ)
     (h : Holds t s d text e sections g entries) where
-  both-sections : (r : Step) → StepTaken sectionRecord entryRecord t o d text' e sections' r → LineTaken o d text' e sections' g entries r
-  both-sections (Go u) k = (
+  both_sections : (r : Step) → StepTaken section_record entry_record t o d text' e sections' r → LineTaken o d text' e sections' g entries r
+  both_sections (Go u) k = (
     k.table,
     k.outcome,
     record {
       apart = k.held.apart;
       state = k.held.state;
-      text-is = k.held.text-is;
-      sections-are = k.held.numbers-are;
-      entries-are = h.entries-are ∙ ap (λ (z : List ℕ). filled z g) (sym k.others);
+      text_is = k.held.text_is;
+      sections_are = k.held.numbers_are;
+      entries_are = h.entries_are ∙ ap (λ (z : List ℕ). filled z g) (sym k.others);
     },
   )
-  both-sections (Refused q) k = k
+  both_sections (Refused q) k = k
 
-  both-entries : (r : Step) → StepTaken entryRecord sectionRecord t o d text' g entries' r → LineTaken o d text' e sections g entries' r
-  both-entries (Go u) k = (
+  both_entries : (r : Step) → StepTaken entry_record section_record t o d text' g entries' r → LineTaken o d text' e sections g entries' r
+  both_entries (Go u) k = (
     k.table,
     k.outcome,
     record {
       apart = k.held.apart;
       state = k.held.state;
-      text-is = k.held.text-is;
-      sections-are = h.sections-are ∙ ap (λ (z : List ℕ). filled z e) (sym k.others);
-      entries-are = k.held.numbers-are;
+      text_is = k.held.text_is;
+      sections_are = h.sections_are ∙ ap (λ (z : List ℕ). filled z e) (sym k.others);
+      entries_are = k.held.numbers_are;
     },
   )
-  both-entries (Refused q) k = k
+  both_entries (Refused q) k = k
 
 module _ (l : Bytes) (n : ℕ) (s : State) (text : Bytes) (sections entries : List ℕ) where
-  pub line-empty : length l ≡ 0 → TakesLine (kind l) n s text sections entries (Go s) text sections entries
+  pub line_empty : length l ≡ 0 → TakesLine (kind l) n s text sections entries (Go s) text sections entries
   unfolding kind act
-  line-empty e t d f g h = go l e
+  line_empty e t d f g h = go l e
     where
       go : (l : Bytes) → length l ≡ 0 → LineTaken (act n t (kind l)) d text f sections g entries (Go s)
       go [] e = (t, refl, h)
@@ -162,39 +162,39 @@ module _ (l : Bytes) (n : ℕ) (s : State) (text : Bytes) (sections entries : Li
         go [] h f = absurd (omega arith)
         go (b ∷ bs) h f = f b bs refl
 
-    starts-header : eqb (get_or l 0 0) 0x5B ≡ true → kind l ≡ headerKind (drop 1 l)
+    starts_header : eqb (get_or l 0 0) 0x5B ≡ true → kind l ≡ header_kind (drop 1 l)
     unfolding kind
-    starts-header e = first (headerKind (drop 1 l)) (λ b bs q. let z : eqb b 0x5B ≡ true = ap (λ (x : Bytes). eqb (get_or x 0 0) 0x5B) (sym q) ∙ e in rw (z, q))
+    starts_header e = first (header_kind (drop 1 l)) (λ b bs q. let z : eqb b 0x5B ≡ true = ap (λ (x : Bytes). eqb (get_or x 0 0) 0x5B) (sym q) ∙ e in rw (z, q))
 
-    starts-entry : eqb (get_or l 0 0) 0x5B ≡ false → kind l ≡ entryKind l
+    starts_entry : eqb (get_or l 0 0) 0x5B ≡ false → kind l ≡ entry_kind l
     unfolding kind
-    starts-entry e = first (entryKind l) (λ b bs q. let z : eqb b 0x5B ≡ false = ap (λ (x : Bytes). eqb (get_or x 0 0) 0x5B) (sym q) ∙ e in rw (z, q))
+    starts_entry e = first (entry_kind l) (λ b bs q. let z : eqb b 0x5B ≡ false = ap (λ (x : Bytes). eqb (get_or x 0 0) 0x5B) (sym q) ∙ e in rw (z, q))
 
-    pub line-header : get_or l 0 0 ≡ 0x5B → (r : Step) (text' : Bytes) (sections' : List ℕ)
-        → TakesHeader (headerKind (take (length l - 1) (drop 1 l))) n s text sections r text' sections'
+    pub line_header : get_or l 0 0 ≡ 0x5B → (r : Step) (text' : Bytes) (sections' : List ℕ)
+        → TakesHeader (header_kind (take (length l - 1) (drop 1 l))) n s text sections r text' sections'
         → TakesLine (kind l) n s text sections entries r text' sections' entries
-    line-header e r text' sections' k t d f g h =
-        let q : kind l ≡ headerKind (take (length l - 1) (drop 1 l)) = starts-header (eq-eqb _ _ e) ∙ ap headerKind (sym (part-from 1 l)) in
-        rw q (both-sections t _ s d text text' f sections sections' g entries entries h r
-        (k t d f (record { apart = h.apart; state = h.state; text-is = h.text-is; numbers-are = h.sections-are })))
+    line_header e r text' sections' k t d f g h =
+        let q : kind l ≡ header_kind (take (length l - 1) (drop 1 l)) = starts_header (eq-eqb _ _ e) ∙ ap header_kind (sym (part_from 1 l)) in
+        rw q (both_sections t _ s d text text' f sections sections' g entries entries h r
+        (k t d f (record { apart = h.apart; state = h.state; text_is = h.text_is; numbers_are = h.sections_are })))
 
-    pub line-entry : (get_or l 0 0 ≡ 0x5B → ⊥) → (r : Step) (text' : Bytes) (entries' : List ℕ)
-        → TakesEntry (entryKind l) n s text entries r text' entries'
+    pub line_entry : (get_or l 0 0 ≡ 0x5B → ⊥) → (r : Step) (text' : Bytes) (entries' : List ℕ)
+        → TakesEntry (entry_kind l) n s text entries r text' entries'
         → TakesLine (kind l) n s text sections entries r text' sections entries'
-    line-entry e r text' entries' k t d f g h =
-        rw (starts-entry (ne_eqb _ _ e)) (both-entries t _ s d text text' f sections sections g entries entries' h r
-        (k t d g (record { apart = h.apart; state = h.state; text-is = h.text-is; numbers-are = h.entries-are })))
+    line_entry e r text' entries' k t d f g h =
+        rw (starts_entry (ne_eqb _ _ e)) (both_entries t _ s d text text' f sections sections g entries entries' h r
+        (k t d g (record { apart = h.apart; state = h.state; text_is = h.text_is; numbers_are = h.entries_are })))
 
 -- the bytes that were trimmed
-pub for-trimmed : (l m : Bytes) (n : ℕ) (s : State) (text : Bytes) (sections entries : List ℕ) (r : Step) (text' : Bytes) (sections' entries' : List ℕ)
+pub for_trimmed : (l m : Bytes) (n : ℕ) (s : State) (text : Bytes) (sections entries : List ℕ) (r : Step) (text' : Bytes) (sections' entries' : List ℕ)
     → l ≡ m → TakesLine (kind l) n s text sections entries r text' sections' entries'
     → TakesLine (kind m) n s text sections entries r text' sections' entries'
-for-trimmed l m n s text sections entries r text' sections' entries' e h =
+for_trimmed l m n s text sections entries r text' sections' entries' e h =
     subst (λ (z : Bytes). TakesLine (kind z) n s text sections entries r text' sections' entries') e h
 
 -- they fit where the line did
 pub trimmed-fits : (m l : Bytes) (used n : ℕ) → m ≡ trimmed l → used + length l ≤ n → used + length m ≤ n
-trimmed-fits m l used n e h = omega (arith, ap length e, length-trim l)
+trimmed-fits m l used n e h = omega (arith, ap length e, length_trim l)
 
-pub rest-fits : (m l : Bytes) (used n : ℕ) → m ≡ trimmed l → used + length l ≤ n → used + length (take (length m - 1) (drop 1 m)) ≤ n
-rest-fits m l used n e h = omega (arith, trimmed-fits m l used n e h, length-take (length m - 1) (drop 1 m))
+pub rest_fits : (m l : Bytes) (used n : ℕ) → m ≡ trimmed l → used + length l ≤ n → used + length (take (length m - 1) (drop 1 m)) ≤ n
+rest_fits m l used n e h = omega (arith, trimmed-fits m l used n e h, length-take (length m - 1) (drop 1 m))

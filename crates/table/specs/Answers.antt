@@ -5,7 +5,7 @@ use Rattle.lines.specs.Answers.{Outcome, accepted, refused}
 use Rattle.lines.specs.Answers as file
 use Rattle.lines.specs.Buffers.{filled}
 use Rattle.table.specs.Tables.{Table, names, entries, verdict}
-use Rattle.table.specs.Contents.{text_of, sectionNumbers, entryNumbers}
+use Rattle.table.specs.Contents.{text_of, section_numbers, entry_numbers}
 use Rattle.table.specs.declared.error.Error.{Error}
 use Rattle.table.specs.declared.error.Error.TheVariants.{File, BadHeader, NoEqualsSign, BadKey, NoSection, TooMany}
 use Rattle.table.specs.declared.reader.ReadAnswer.{ReadAnswer}
@@ -32,8 +32,8 @@ place_of (NoSection n) = n
 place_of (TooMany n) = n
 
 -- an error is a refusal
-abbrev pub errorMeans : {A : Type 0} → Error → Outcome A
-errorMeans e = refused (number_of e) (place_of e)
+abbrev pub error_means : {A : Type 0} → Error → Outcome A
+error_means e = refused (number_of e) (place_of e)
 
 -- ---- reading
 
@@ -44,55 +44,55 @@ pub record Counts : Type 0 where
   pub entries : ℕ
 
 -- what the answer of `read` means
-abbrev pub readMeans : ReadAnswer → Outcome Counts
-readMeans (Accepted n m k) = accepted (record { text = n; sections = m; entries = k })
-readMeans (Refused e) = errorMeans e
+abbrev pub read_means : ReadAnswer → Outcome Counts
+read_means (Accepted n m k) = accepted (record { text = n; sections = m; entries = k })
+read_means (Refused e) = error_means e
 
 -- the counts of a table
-abbrev pub countsOf : Table → Counts
-countsOf t =
+abbrev pub counts_of : Table → Counts
+counts_of t =
     record { text = length (text_of t.events); sections = length (names t.events); entries = length (entries t.events) }
 
 -- or the refusal
 abbrev pub counted : Outcome Table → Outcome Counts
-counted (accepted t) = accepted (countsOf t)
+counted (accepted t) = accepted (counts_of t)
 counted (refused n p) = refused n p
 
 -- the text buffer afterwards: the table's text in front, and the rest as it was
-abbrev pub textAfter : Outcome Table → Bytes → Bytes
-textAfter (accepted t) d = filled (text_of t.events) d
-textAfter (refused n p) d = d
+abbrev pub text_after : Outcome Table → Bytes → Bytes
+text_after (accepted t) d = filled (text_of t.events) d
+text_after (refused n p) d = d
 
 -- the section buffer
-abbrev pub sectionsAfter : Outcome Table → List ℕ → List ℕ
-sectionsAfter (accepted t) d = filled (sectionNumbers t.events) d
-sectionsAfter (refused n p) d = d
+abbrev pub sections_after : Outcome Table → List ℕ → List ℕ
+sections_after (accepted t) d = filled (section_numbers t.events) d
+sections_after (refused n p) d = d
 
 -- and the entry buffer
-abbrev pub entriesAfter : Outcome Table → List ℕ → List ℕ
-entriesAfter (accepted t) d = filled (entryNumbers t.events) d
-entriesAfter (refused n p) d = d
+abbrev pub entries_after : Outcome Table → List ℕ → List ℕ
+entries_after (accepted t) d = filled (entry_numbers t.events) d
+entries_after (refused n p) d = d
 
 -- what a call leaves in the three buffers, where this is the outcome
 pub record TableLeft (o : Outcome Table) (text : Bytes) (sections entries : List ℕ) (text' : Bytes) (sections' entries' : List ℕ) : Type 0 where
-  pub text-after : text' ≡ textAfter o text
-  pub sections-after : sections' ≡ sectionsAfter o sections
-  pub entries-after : entries' ≡ entriesAfter o entries
+  pub new_text : text' ≡ text_after o text
+  pub new_sections : sections' ≡ sections_after o sections
+  pub new_entries : entries' ≡ entries_after o entries
 
 -- and what it answers
 pub record ReadLeaves (o : Outcome Table) (text : Bytes) (sections entries : List ℕ)
     (r : ReadAnswer) (text' : Bytes) (sections' entries' : List ℕ) : Type 0 where
-  pub answer : readMeans r ≡ counted o
+  pub answer : read_means r ≡ counted o
   pub left : TableLeft o text sections entries text' sections' entries'
 
 -- 1 before everything: the buffers have at least 65,535 bytes, 128 numbers and 2,560 numbers
-unfoldable pub readIn : (textSize sectionsSize entriesSize : ℕ) → Bytes → Outcome Table
+unfoldable pub read_in : (textSize sectionsSize entriesSize : ℕ) → Bytes → Outcome Table
 unfolding verdict
-readIn textSize sectionsSize entriesSize f =
+read_in textSize sectionsSize entriesSize f =
     cond (nat_lt textSize 65535 || (nat_lt sectionsSize 128 || nat_lt entriesSize 2560)) (refused 1 0) (verdict f)
 
 -- the promise of `read`: the answer, and the three buffers whole
 abbrev pub Reads : (f text : Bytes) (sections entries : List ℕ)
     (r : ReadAnswer) (text' : Bytes) (sections' entries' : List ℕ) → Type 0
 Reads f text sections entries r text' sections' entries' =
-    ReadLeaves (readIn (length text) (length sections) (length entries) f) text sections entries r text' sections' entries'
+    ReadLeaves (read_in (length text) (length sections) (length entries) f) text sections entries r text' sections' entries'

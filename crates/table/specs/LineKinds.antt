@@ -1,7 +1,7 @@
 -- What a trimmed logical line is: nothing, a section header (the rules' heading), an entry, or a fault.
 use Rattle.std.specs.Prelude.{ℕ, Bool, false, cond, not, ◌&&◌, [], ◌∷◌, ◌==◌}
-use Rattle.lines.specs.Bytes.{Bytes, keyByte, headerByte, all, any}
-use Rattle.lines.specs.Trim.{trimStart, trimEnd}
+use Rattle.lines.specs.Bytes.{Bytes, key_byte, header_byte, all, any}
+use Rattle.lines.specs.Trim.{trim_start, trim_end}
 
 -- ---- kinds
 
@@ -16,10 +16,10 @@ pub data Kind : Type 0 where
 -- ---- parts of a line
 
 -- one or more bytes, and each of them passes
-unfoldable pub oneOrMore : (ℕ → Bool) → Bytes → Bool
+unfoldable pub one_or_more : (ℕ → Bool) → Bytes → Bool
 unfolding all
-oneOrMore p [] = false
-oneOrMore p (b ∷ bs) = all p (b ∷ bs)
+one_or_more p [] = false
+one_or_more p (b ∷ bs) = all p (b ∷ bs)
 
 -- the last byte is c
 unfoldable pub ends_with : ℕ → Bytes → Bool
@@ -28,10 +28,10 @@ ends_with c (b ∷ []) = b == c
 ends_with c (b ∷ d ∷ ds) = ends_with c (d ∷ ds)
 
 -- all bytes but the last
-unfoldable pub withoutLast : Bytes → Bytes
-withoutLast [] = []
-withoutLast (b ∷ []) = []
-withoutLast (b ∷ c ∷ cs) = b ∷ withoutLast (c ∷ cs)
+unfoldable pub without_last : Bytes → Bytes
+without_last [] = []
+without_last (b ∷ []) = []
+without_last (b ∷ c ∷ cs) = b ∷ without_last (c ∷ cs)
 
 -- the bytes before the first c; all of them where there is none
 unfoldable pub before : ℕ → Bytes → Bytes
@@ -47,47 +47,47 @@ behind c (b ∷ bs) = cond (b == c) bs (behind c bs)
 
 -- the bytes behind a [ are a header's: they end with ], and the name before it has one or more bytes 20 to 7E, none of
 -- them [ or ]; blanks there belong to it
-unfoldable pub isHeader : Bytes → Bool
-unfolding ends_with withoutLast oneOrMore
-isHeader rest = ends_with 0x5D rest && oneOrMore headerByte (withoutLast rest)
+unfoldable pub is_header : Bytes → Bool
+unfolding ends_with without_last one_or_more
+is_header rest = ends_with 0x5D rest && one_or_more header_byte (without_last rest)
 
 -- a line that starts with [, of which these are the other bytes: a header with its name, or 6
-unfoldable pub headerKind : Bytes → Kind
-unfolding isHeader withoutLast
-headerKind rest = cond (isHeader rest) (header (withoutLast rest)) (fault 6)
+unfoldable pub header_kind : Bytes → Kind
+unfolding is_header without_last
+header_kind rest = cond (is_header rest) (header (without_last rest)) (fault 6)
 
 -- ---- entries
 
 -- the equals sign
-abbrev pub equalsSign : ℕ
-equalsSign = 0x3D
+abbrev pub equals_sign : ℕ
+equals_sign = 0x3D
 
 -- a byte is one
-abbrev pub isEqualsSign : ℕ → Bool
-isEqualsSign b = b == equalsSign
+abbrev pub is_equals_sign : ℕ → Bool
+is_equals_sign b = b == equals_sign
 
 -- what stands before the first =, without the blanks next to it
 unfoldable pub key_of : Bytes → Bytes
-unfolding before trimEnd
-key_of l = trimEnd (before equalsSign l)
+unfolding before trim_end
+key_of l = trim_end (before equals_sign l)
 
 -- what stands behind it, without the blanks next to it; it may be empty, and may hold more =
 unfoldable pub value_of : Bytes → Bytes
-unfolding behind trimStart
-value_of l = trimStart (behind equalsSign l)
+unfolding behind trim_start
+value_of l = trim_start (behind equals_sign l)
 
 -- A line that starts with no [. Without = it is 7; where the key is not one or more letters, digits, - _ . it is 8.
-unfoldable pub entryKind : Bytes → Kind
-unfolding any key_of value_of oneOrMore
-entryKind l =
-    cond (not (any isEqualsSign l)) (fault 7)
-    (cond (not (oneOrMore keyByte (key_of l))) (fault 8)
+unfoldable pub entry_kind : Bytes → Kind
+unfolding any key_of value_of one_or_more
+entry_kind l =
+    cond (not (any is_equals_sign l)) (fault 7)
+    (cond (not (one_or_more key_byte (key_of l))) (fault 8)
     (entry (key_of l) (value_of l)))
 
 -- ---- lines
 
 -- a trimmed line; an empty one is ignored
 unfoldable pub kind : Bytes → Kind
-unfolding headerKind entryKind
+unfolding header_kind entry_kind
 kind [] = empty
-kind (b ∷ bs) = cond (b == 0x5B) (headerKind bs) (entryKind (b ∷ bs))
+kind (b ∷ bs) = cond (b == 0x5B) (header_kind bs) (entry_kind (b ∷ bs))

@@ -6,11 +6,11 @@ use Rattle.lines.specs.Bytes.{Bytes, equal}
 use Rattle.lines.specs.Lines.{Line}
 use Rattle.lines.specs.Answers.{Outcome, accepted}
 use Rattle.lines.specs.Buffers.{filled, put}
-use Rattle.lines.specs.Cursors.{logicalFrom}
+use Rattle.lines.specs.Cursors.{logical_from}
 use Rattle.table.specs.LineKinds.{Kind}
 use Rattle.table.specs.Tables.{Event, Table, names, entries, act, step, run}
-use Rattle.table.specs.Contents.{text_of, sectionRecord, entryRecord, recordsFrom, sectionNumbers, entryNumbers}
-use Rattle.table.specs.Answers.{errorMeans}
+use Rattle.table.specs.Contents.{text_of, section_record, entry_record, records_from, section_numbers, entry_numbers}
+use Rattle.table.specs.Answers.{error_means}
 use Rattle.table.specs.Laws.{Sized, Apart}
 use Rattle.table.specs.declared.state.State.{State}
 use Rattle.table.specs.declared.state.Step.{Step}
@@ -24,29 +24,29 @@ use Rattle.table.specs.declared.reader.ReadAnswer.TheVariants.{Accepted as ReadA
 -- ---- a name among the sections in the buffers
 
 -- the part of a text from a on, n bytes long, is inside the text and equal to the name
-unfoldable pub isNamed : (name text : Bytes) (a n : ℕ) → Bool
+unfoldable pub is_named : (name text : Bytes) (a n : ℕ) → Bool
 unfolding equal
-isNamed x text a n = nat_le (a + n) (length text) && equal x (take n (drop a text))
+is_named x text a n = nat_le (a + n) (length text) && equal x (take n (drop a text))
 
 -- the index of the first of so many pairs of numbers whose part is the name, or how many pairs there are
-unfoldable pub firstNamed : (name text : Bytes) → ℕ → List ℕ → ℕ
-unfolding isNamed
-firstNamed x text zero ns = 0
-firstNamed x text (suc k) [] = 0
-firstNamed x text (suc k) (a ∷ []) = 0
-firstNamed x text (suc k) (a ∷ n ∷ ns) = cond (isNamed x text a n) 0 (suc (firstNamed x text k ns))
+unfoldable pub first_named : (name text : Bytes) → ℕ → List ℕ → ℕ
+unfolding is_named
+first_named x text zero ns = 0
+first_named x text (suc k) [] = 0
+first_named x text (suc k) (a ∷ []) = 0
+first_named x text (suc k) (a ∷ n ∷ ns) = cond (is_named x text a n) 0 (suc (first_named x text k ns))
 
 -- an index below their number is that of a pair whose part is the name, and any other says that no pair is
 pub record SectionFound (name text : Bytes) (count : ℕ) (numbers : List ℕ) (index : ℕ) : Type 0 where
-  pub known : index < count → isNamed name text (slice_index numbers (2 * index)) (slice_index numbers (2 * index + 1)) ≡ true
-  pub new : count ≤ index → firstNamed name text count numbers ≡ count
+  pub known : index < count → is_named name text (slice_index numbers (2 * index)) (slice_index numbers (2 * index + 1)) ≡ true
+  pub new : count ≤ index → first_named name text count numbers ≡ count
 
 -- ---- the state of a table
 
 -- the section that is open: 0 before any header, else one more than its index
-abbrev pub currentOf : Option ℕ → ℕ
-currentOf none = 0
-currentOf (some i) = suc i
+abbrev pub current_of : Option ℕ → ℕ
+current_of none = 0
+current_of (some i) = suc i
 
 -- how much of the buffers it uses
 abbrev pub state_of : Table → State
@@ -54,20 +54,20 @@ state_of t = record {
   text = length (text_of t.events);
   sections = length (names t.events);
   entries = length (entries t.events);
-  current = currentOf t.current;
+  current = current_of t.current;
 }
 
 -- a section behind the others
 pub record SectionPut (x : Bytes) (s : State) (text : Bytes) (sections : List ℕ) (r : State) (text' : Bytes) (sections' : List ℕ) : Type 0 where
   pub state : r ≡ record { text = s.text + length x; sections = s.sections + 1; entries = s.entries; current = s.sections + 1 }
-  pub text-put : text' ≡ put text s.text x
-  pub numbers-put : sections' ≡ put sections (2 * s.sections) (s.text ∷ length x ∷ [])
+  pub text_put : text' ≡ put text s.text x
+  pub numbers_put : sections' ≡ put sections (2 * s.sections) (s.text ∷ length x ∷ [])
 
 -- an entry behind the others
 pub record EntryPut (i : ℕ) (k v : Bytes) (s : State) (text : Bytes) (entries : List ℕ) (r : State) (text' : Bytes) (entries' : List ℕ) : Type 0 where
   pub state : r ≡ record { text = s.text + length k + length v; sections = s.sections; entries = s.entries + 1; current = s.current }
-  pub text-put : text' ≡ put (put text s.text k) (s.text + length k) v
-  pub numbers-put : entries' ≡ put entries (5 * s.entries) (i ∷ s.text ∷ length k ∷ (s.text + length k) ∷ length v ∷ [])
+  pub text_put : text' ≡ put (put text s.text k) (s.text + length k) v
+  pub numbers_put : entries' ≡ put entries (5 * s.entries) (i ∷ s.text ∷ length k ∷ (s.text + length k) ∷ length v ∷ [])
 
 -- ---- a line that goes into the text and one of the buffers of numbers; d and e are the buffers as they were at first
 
@@ -75,20 +75,20 @@ pub record EntryPut (i : ℕ) (k v : Bytes) (s : State) (text : Bytes) (entries 
 pub record Held (f : ℕ → Event → List ℕ) (t : Table) (s : State) (d text : Bytes) (e numbers : List ℕ) : Type 0 where
   pub apart : Apart [] (names t.events)
   pub state : s ≡ state_of t
-  pub text-is : text ≡ filled (text_of t.events) d
-  pub numbers-are : numbers ≡ filled (recordsFrom f 0 t.events) e
+  pub text_is : text ≡ filled (text_of t.events) d
+  pub numbers_are : numbers ≡ filled (records_from f 0 t.events) e
 
 -- a table that came from t, with the records of the other kind as they were
 pub record Taken (f other : ℕ → Event → List ℕ) (t : Table) (o : Outcome Table) (s : State) (d text : Bytes) (e numbers : List ℕ) : Type 0 where
   pub table : Table
   pub outcome : o ≡ accepted table
   pub held : Held f table s d text e numbers
-  pub others : recordsFrom other 0 table.events ≡ recordsFrom other 0 t.events
+  pub others : records_from other 0 table.events ≡ records_from other 0 t.events
 
 -- what a step leaves; after a refusal nobody reads the buffers
 abbrev pub StepTaken : (f other : ℕ → Event → List ℕ) → Table → Outcome Table → (d text : Bytes) (e numbers : List ℕ) → Step → Type 0
 StepTaken f other t o d text e numbers (Go s) = Taken f other t o s d text e numbers
-StepTaken f other t o d text e numbers (Refused k) = o ≡ errorMeans k
+StepTaken f other t o d text e numbers (Refused k) = o ≡ error_means k
 
 -- a line of this kind, with number n, is taken into whatever table is held
 abbrev pub Takes : (f other : ℕ → Event → List ℕ) → Kind → (n : ℕ) (s : State) (text : Bytes) (numbers : List ℕ)
@@ -99,12 +99,12 @@ Takes f other k n s text numbers r text' numbers' =
 -- a header
 abbrev pub TakesHeader : Kind → (n : ℕ) (s : State) (text : Bytes) (sections : List ℕ)
     (r : Step) (text' : Bytes) (sections' : List ℕ) → Type 0
-TakesHeader k n s text sections r text' sections' = Takes sectionRecord entryRecord k n s text sections r text' sections'
+TakesHeader k n s text sections r text' sections' = Takes section_record entry_record k n s text sections r text' sections'
 
 -- an entry
 abbrev pub TakesEntry : Kind → (n : ℕ) (s : State) (text : Bytes) (entries : List ℕ)
     (r : Step) (text' : Bytes) (entries' : List ℕ) → Type 0
-TakesEntry k n s text entries r text' entries' = Takes entryRecord sectionRecord k n s text entries r text' entries'
+TakesEntry k n s text entries r text' entries' = Takes entry_record section_record k n s text entries r text' entries'
 
 -- ---- a line and all three buffers; d, e and g are the buffers as they were at first
 
@@ -112,14 +112,14 @@ TakesEntry k n s text entries r text' entries' = Takes entryRecord sectionRecord
 pub record Holds (t : Table) (s : State) (d text : Bytes) (e sections : List ℕ) (g entries : List ℕ) : Type 0 where
   pub apart : Apart [] (names t.events)
   pub state : s ≡ state_of t
-  pub text-is : text ≡ filled (text_of t.events) d
-  pub sections-are : sections ≡ filled (sectionNumbers t.events) e
-  pub entries-are : entries ≡ filled (entryNumbers t.events) g
+  pub text_is : text ≡ filled (text_of t.events) d
+  pub sections_are : sections ≡ filled (section_numbers t.events) e
+  pub entries_are : entries ≡ filled (entry_numbers t.events) g
 
 -- what a step leaves
 abbrev pub LineTaken : Outcome Table → (d text : Bytes) (e sections g entries : List ℕ) → Step → Type 0
 LineTaken o d text e sections g entries (Go s) = (u : Table) × (o ≡ accepted u) × Holds u s d text e sections g entries
-LineTaken o d text e sections g entries (Refused k) = o ≡ errorMeans k
+LineTaken o d text e sections g entries (Refused k) = o ≡ error_means k
 
 -- a line of this kind, with number n, is taken into whatever table is held
 abbrev pub TakesLine : Kind → (n : ℕ) (s : State) (text : Bytes) (sections entries : List ℕ)
@@ -133,7 +133,7 @@ TakesLine k n s text sections entries r text' sections' entries' =
 -- the next line of the file went into the table, and reading goes on behind it
 pub record LineRead (f : Bytes) (p : Progress) (t : Table) (d text : Bytes) (e sections g entries : List ℕ) (q : Progress) : Type 0 where
   pub line : Line
-  pub view : logicalFrom f p.cursor ≡ line ∷ logicalFrom f q.cursor
+  pub view : logical_from f p.cursor ≡ line ∷ logical_from f q.cursor
   pub table : Table
   pub outcome : step t line ≡ accepted table
   pub holds : Holds table q.state d text e sections g entries
@@ -145,8 +145,8 @@ pub record LineRead (f : Bytes) (p : Progress) (t : Table) (d text : Bytes) (e s
 abbrev pub TurnTaken : Bytes → Progress → Table → (d text : Bytes) (e sections g entries : List ℕ) → Turn → Type 0
 TurnTaken f p t d text e sections g entries (TurnGo q) = LineRead f p t d text e sections g entries q
 TurnTaken f p t d text e sections g entries TurnEnd =
-    (logicalFrom f p.cursor ≡ []) × Holds t p.state d text e sections g entries
-TurnTaken f p t d text e sections g entries (TurnRefused k) = run t (logicalFrom f p.cursor) ≡ errorMeans k
+    (logical_from f p.cursor ≡ []) × Holds t p.state d text e sections g entries
+TurnTaken f p t d text e sections g entries (TurnRefused k) = run t (logical_from f p.cursor) ≡ error_means k
 
 -- the next line is read into whatever table is held
 abbrev pub ReadsLine : (f : Bytes) (p : Progress) (text : Bytes) (sections entries : List ℕ)
@@ -165,12 +165,12 @@ pub record AllRead (o : Outcome Table) (d text : Bytes) (e sections g entries : 
   pub outcome : o ≡ accepted table
   pub state : State
   pub holds : Holds table state d text e sections g entries
-  pub text-is : n ≡ state.text
-  pub sections-is : m ≡ state.sections
-  pub entries-is : k ≡ state.entries
+  pub text_is : n ≡ state.text
+  pub sections_is : m ≡ state.sections
+  pub entries_is : k ≡ state.entries
   pub sized : Sized 65535 table
 
 -- what reading all lines leaves
 abbrev pub ReadInto : Outcome Table → (d : Bytes) (e g : List ℕ) → ReadAnswer → (text : Bytes) (sections entries : List ℕ) → Type 0
 ReadInto o d e g (ReadAccepted n m k) text sections entries = AllRead o d text e sections g entries n m k
-ReadInto o d e g (ReadRefused k) text sections entries = o ≡ errorMeans k
+ReadInto o d e g (ReadRefused k) text sections entries = o ≡ error_means k

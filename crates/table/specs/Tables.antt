@@ -2,9 +2,9 @@
 use Rattle.std.specs.Prelude.{ℕ, suc, cond, List, [], ◌∷◌, ◌++◌, length, nat_lt}
 use Rattle.std.proofs.Math.Option.{Option, none, some}
 use Rattle.lines.specs.Bytes.{Bytes, equal}
-use Rattle.lines.specs.Lines.{Line, tooLong, logical}
+use Rattle.lines.specs.Lines.{Line, too_long, logical}
 use Rattle.lines.specs.Trim.{trimmed}
-use Rattle.lines.specs.Files.{checkedFile}
+use Rattle.lines.specs.Files.{checked_file}
 use Rattle.lines.specs.Answers.{Outcome, accepted, refused}
 use Rattle.table.specs.LineKinds.{Kind, empty, header, entry, fault, kind}
 
@@ -17,13 +17,13 @@ pub record Entry : Type 0 where
   pub value : Bytes
 
 -- the entry of a section with this index
-abbrev pub entryIn : ℕ → Bytes → Bytes → Entry
-entryIn i k v = record { section = i; key = k; value = v }
+abbrev pub entry_in : ℕ → Bytes → Bytes → Entry
+entry_in i k v = record { section = i; key = k; value = v }
 
 -- what a line brings
 pub data Event : Type 0 where
-  newSection : (name : Bytes) → Event
-  newEntry : Entry → Event
+  new_section : (name : Bytes) → Event
+  new_entry : Entry → Event
 
 -- A table as it is read. The rules' table is what the lines so far have brought, in file order. The index of the
 -- section that is open, none before any header, serves the lines to come.
@@ -32,20 +32,20 @@ pub record Table : Type 0 where
   pub current : Option ℕ
 
 -- before the first line
-abbrev pub emptyTable : Table
-emptyTable = record { events = []; current = none }
+abbrev pub empty_table : Table
+empty_table = record { events = []; current = none }
 
 -- the sections' names, in order of first appearance
 unfoldable pub names : List Event → List Bytes
 names [] = []
-names (newSection x ∷ es) = x ∷ names es
-names (newEntry e ∷ es) = names es
+names (new_section x ∷ es) = x ∷ names es
+names (new_entry e ∷ es) = names es
 
 -- the entries, in file order
 unfoldable pub entries : List Event → List Entry
 entries [] = []
-entries (newSection x ∷ es) = entries es
-entries (newEntry e ∷ es) = e ∷ entries es
+entries (new_section x ∷ es) = entries es
+entries (new_entry e ∷ es) = e ∷ entries es
 
 -- ---- one line more
 
@@ -71,7 +71,7 @@ unfolding names
 opened n t x (some i) = accepted (record { events = t.events; current = some i })
 opened n t x none =
     cond (nat_lt (length (names t.events)) 64)
-    (accepted (with t (newSection x) (length (names t.events))))
+    (accepted (with t (new_section x) (length (names t.events))))
     (refused 10 n)
 
 -- An entry in line n, where this section is open. Before any header it is 9; the 513th is 10.
@@ -80,7 +80,7 @@ unfolding entries
 added n t k v none = refused 9 n
 added n t k v (some i) =
     cond (nat_lt (length (entries t.events)) 512)
-    (accepted (with t (newEntry (entryIn i k v)) i))
+    (accepted (with t (new_entry (entry_in i k v)) i))
     (refused 10 n)
 
 -- what a kind of line does to a table
@@ -95,7 +95,7 @@ act n t (fault c) = refused c n
 -- physical line.
 unfoldable pub step : Table → Line → Outcome Table
 unfolding act kind trimmed
-step t l = cond (tooLong l) (refused 5 l.number) (act l.number t (kind (trimmed l.bytes)))
+step t l = cond (too_long l) (refused 5 l.number) (act l.number t (kind (trimmed l.bytes)))
 
 -- ---- all lines
 
@@ -112,5 +112,5 @@ run t (l ∷ ls) = and_then (step t l) (λ u. run u ls)
 
 -- The verdict on a file, from its bytes alone: 2, 3 and 4 over the whole file, then its logical lines.
 unfoldable pub verdict : Bytes → Outcome Table
-unfolding checkedFile and_then run logical
-verdict f = and_then (checkedFile f) (λ sound. run emptyTable (logical f))
+unfolding checked_file and_then run logical
+verdict f = and_then (checked_file f) (λ sound. run empty_table (logical f))

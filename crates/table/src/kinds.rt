@@ -1,7 +1,7 @@
 // The parts of a trimmed line.
 ghost use Rattle.std.specs.Prelude.{◌≡◌, length};
-ghost use Rattle.lines.specs.Bytes.{keyByte, headerByte};
-ghost use Rattle.table.specs.LineKinds.{oneOrMore, before, isHeader};
+ghost use Rattle.lines.specs.Bytes.{key_byte, header_byte};
+ghost use Rattle.table.specs.LineKinds.{one_or_more, before, is_header};
 
 use lines::{is_header_byte, is_key_byte};
 
@@ -21,7 +21,7 @@ pub(crate) fn offset_of(byte: u8, line: &[u8]) -> usize
 
 // One or more bytes that a key may have.
 pub(crate) fn is_key(part: &[u8]) -> bool
-    ensures { result ≡ oneOrMore keyByte part.now }
+    ensures { result ≡ one_or_more key_byte part.now }
 {
     if part.len() == 0 {
         return false;
@@ -38,7 +38,7 @@ pub(crate) fn is_key(part: &[u8]) -> bool
 
 // One or more bytes that a section's name may have.
 pub(crate) fn is_name(part: &[u8]) -> bool
-    ensures { result ≡ oneOrMore headerByte part.now }
+    ensures { result ≡ one_or_more header_byte part.now }
 {
     if part.len() == 0 {
         return false;
@@ -55,7 +55,7 @@ pub(crate) fn is_name(part: &[u8]) -> bool
 
 // Whether the bytes behind a leading [ are a name and ] at the end.
 pub(crate) fn is_header(rest: &[u8]) -> bool
-    ensures { result ≡ isHeader rest.now }
+    ensures { result ≡ is_header rest.now }
 {
     let end = rest.len();
     if end == 0 {

@@ -1,7 +1,7 @@
 // The table of a whole file.
 ghost use Rattle.std.specs.Prelude.{◌≡◌, ◌≤◌, length};
 ghost use Rattle.lines.specs.Lines.{logical};
-ghost use Rattle.table.specs.Tables.{emptyTable, run};
+ghost use Rattle.table.specs.Tables.{empty_table, run};
 ghost use Rattle.table.specs.Answers.{ReadLeaves, Reads};
 ghost use Rattle.table.specs.Steps.{answer_of, ReadsLine, ReadInto};
 
@@ -103,7 +103,7 @@ fn read_lines(
     entries: &mut [usize],
 ) -> ReadAnswer
     requires { (length file.now ≤ 65535) × (length text.old ≡ 65535) × (length sections.old ≡ 128) × (length entries.old ≡ 2560) }
-    ensures { ReadInto (run emptyTable (logical file.now)) text.old sections.old entries.old result text.new sections.new entries.new }
+    ensures { ReadInto (run empty_table (logical file.now)) text.old sections.old entries.old result text.new sections.new entries.new }
 {
     let mut line = [0u8; 4096];
     let mut order = [0usize; ORDER_NUMBERS];
@@ -130,7 +130,7 @@ fn read_apart(
     entries: &mut [usize],
 ) -> ReadAnswer
     requires { (length file.now ≤ 65535) × (65535 ≤ length text.old) × (128 ≤ length sections.old) × (2560 ≤ length entries.old) }
-    ensures { ReadLeaves (run emptyTable (logical file.now)) text.old sections.old entries.old result text.new sections.new entries.new }
+    ensures { ReadLeaves (run empty_table (logical file.now)) text.old sections.old entries.old result text.new sections.new entries.new }
 {
     let mut bytes = [0u8; TEXT_BYTES];
     let mut section_numbers = [0usize; SECTION_NUMBERS];

@@ -1,7 +1,7 @@
 // The sections that a table has so far.
 ghost use Rattle.std.specs.Prelude.{◌≡◌, ◌+◌, ◌*◌, ◌<◌, ◌≤◌, length};
 ghost use Rattle.table.specs.LineKinds.{header};
-ghost use Rattle.table.specs.Steps.{isNamed, SectionFound, SectionPut, TakesHeader};
+ghost use Rattle.table.specs.Steps.{is_named, SectionFound, SectionPut, TakesHeader};
 
 use crate::error::Error;
 use crate::order::{guess_section, put_in_order};
@@ -9,7 +9,7 @@ use crate::state::{State, Step};
 
 // Whether a part of the text is this name. One that is not inside the text is no name.
 fn is_named(name: &[u8], text: &[u8], start: usize, length: usize) -> bool
-    ensures { result ≡ isNamed name.now text.now start length }
+    ensures { result ≡ is_named name.now text.now start length }
 {
     if text.len() < start {
         return false;

@@ -1,6 +1,6 @@
 // What reading keeps of a table, and what one line more does to it.
 ghost use Rattle.std.specs.Prelude.{◌≡◌};
-ghost use Rattle.table.specs.Tables.{emptyTable};
+ghost use Rattle.table.specs.Tables.{empty_table};
 ghost use Rattle.table.specs.Steps.{state_of};
 
 use crate::error::Error;
@@ -18,7 +18,7 @@ pub(crate) struct State {
 impl State {
     // Before the first line.
     pub(crate) fn new() -> State
-        ensures { result ≡ state_of emptyTable }
+        ensures { result ≡ state_of empty_table }
     {
         State {
             text: 0,

@@ -2,7 +2,7 @@
 ghost use Rattle.std.specs.Prelude.{◌≡◌, ◌+◌, ◌*◌, ◌^◌, ◌<◌, ◌≤◌, [], ◌∷◌, length};
 ghost use Rattle.lines.specs.Trim.{trimmed};
 ghost use Rattle.lines.specs.Buffers.{put};
-ghost use Rattle.table.specs.LineKinds.{entry, headerKind, entryKind, kind};
+ghost use Rattle.table.specs.LineKinds.{entry, header_kind, entry_kind, kind};
 ghost use Rattle.table.specs.Steps.{EntryPut, TakesHeader, TakesEntry, TakesLine};
 
 use crate::error::Error;
@@ -91,7 +91,7 @@ fn add_header_line(
     order: &mut [usize],
 ) -> Step
     requires { (state.text + length rest.now ≤ length text.old) × (state.sections ≤ 64) × (128 ≤ length sections.old) × (128 ≤ length order.old) }
-    ensures { TakesHeader (headerKind rest.now) number state text.old sections.old result text.new sections.new }
+    ensures { TakesHeader (header_kind rest.now) number state text.old sections.old result text.new sections.new }
 {
     if !is_header(rest) {
         return Step::Refused(Error::BadHeader(number));
@@ -115,7 +115,7 @@ fn add_entry_line(
     entries: &mut [usize],
 ) -> Step
     requires { (state.text + length line.now ≤ length text.old) × (2560 ≤ length entries.old) }
-    ensures { TakesEntry (entryKind line.now) number state text.old entries.old result text.new entries.new }
+    ensures { TakesEntry (entry_kind line.now) number state text.old entries.old result text.new entries.new }
 {
     let at = offset_of(b'=', line);
     if line.len() <= at {

@@ -11,14 +11,14 @@ use Rattle.values.specs.Spans.{alike}
 abbrev pub Class : (ℕ → Bool) → Type 0
 Class p = (b c : ℕ) → p b ≡ true → alike b c ≡ p c
 
-pub digit-class : Class digit
-digit-class b c h = rw (h, digit-letter b h, digit-blank b h) (by_cases (digit c) (λ e. rw e) (λ e. rw e))
+pub digit_class : Class digit
+digit_class b c h = rw (h, digit-letter b h, digit-blank b h) (by_cases (digit c) (λ e. rw e) (λ e. rw e))
 
-pub letter-class : Class letter
-letter-class b c h = rw (letter-digit b h, h, letter-blank b h) (by_cases (letter c) (λ e. rw e) (λ e. rw e))
+pub letter_class : Class letter
+letter_class b c h = rw (letter-digit b h, h, letter-blank b h) (by_cases (letter c) (λ e. rw e) (λ e. rw e))
 
-pub blank-class : Class blank
-blank-class b c h = rw (blank-digit b h, blank-letter b h, h)
+pub blank_class : Class blank
+blank_class b c h = rw (blank-digit b h, blank-letter b h, h)
 
 -- ---- two bytes
 
@@ -26,8 +26,8 @@ blank-class b c h = rw (blank-digit b h, blank-letter b h, h)
 pub shared : {X : Type 0} (b c : ℕ) → alike b c ≡ true → ((p : ℕ → Bool) → Class p → p b ≡ true → p c ≡ true → X) → X
 shared {X} b c e f =
     or_cases (digit b && digit c || letter b && letter c) (blank b && blank c) e
-    (λ e. or_cases (digit b && digit c) (letter b && letter c) e (by digit digit-class) (by letter letter-class))
-    (by blank blank-class)
+    (λ e. or_cases (digit b && digit c) (letter b && letter c) e (by digit digit_class) (by letter letter_class))
+    (by blank blank_class)
   where
     by : (p : ℕ → Bool) → Class p → (p b && p c) ≡ true → X
     by p k e = f p k (and_left (p b) (p c) e) (and_right (p b) (p c) e)

@@ -18,7 +18,7 @@ pub record Layout (ws : List Bytes) (t : Bytes) : Type 0 where
   pub before : Bytes
   pub others : Bytes
   pub text : t ≡ before ++ others
-  pub before-blank : all blank before ≡ true
+  pub before_blank : all blank before ≡ true
   pub laid : Laid ws others
 
 joined-runs : (t : Bytes) → flatten (runs t) ≡ t
@@ -34,26 +34,26 @@ joined-runs (b ∷ c ∷ t) =
     longer [] = refl
     longer (r ∷ rs) = refl
 
-runs-layout : (rs : List Bytes) → Layout (tokens rs) (flatten rs)
+runs_layout : (rs : List Bytes) → Layout (tokens rs) (flatten rs)
 unfolding flatten tokens all
-runs-layout [] = record { before = []; others = []; text = refl; before-blank = refl; laid = end }
-runs-layout (r ∷ rs) =
-    let l = runs-layout rs in
+runs_layout [] = record { before = []; others = []; text = refl; before_blank = refl; laid = end }
+runs_layout (r ∷ rs) =
+    let l = runs_layout rs in
     by_cases (all blank r)
     (λ e. rw e (record {
       before = r ++ l.before;
       others = l.others;
       text = ap (λ (s : Bytes). r ++ s) l.text ∙ sym (append_assoc r l.before l.others);
-      before-blank = all_append blank r l.before ∙ both (all blank r) (all blank l.before) e l.before-blank;
+      before_blank = all_append blank r l.before ∙ both (all blank r) (all blank l.before) e l.before_blank;
       laid = l.laid;
     }))
     (λ e. rw e (record {
       before = [];
       others = r ++ flatten rs;
       text = refl;
-      before-blank = refl;
-      laid = rw l.text (token r l.before e l.before-blank l.laid);
+      before_blank = refl;
+      laid = rw l.text (token r l.before e l.before_blank l.laid);
     }))
 
 pub layout : (t : Bytes) → Layout (tokens (runs t)) t
-layout t = rw (joined-runs t) at (runs-layout (runs t))
+layout t = rw (joined-runs t) at (runs_layout (runs t))

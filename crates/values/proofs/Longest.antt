@@ -24,29 +24,29 @@ unfolding longest
 longest-take p [] = refl
 longest-take p (b ∷ bs) = by_cases (p b) (λ e. rw e (ap (λ (l : Bytes). b ∷ l) (longest-take p bs))) (λ e. rw e)
 
-pub longest-more : (p : ℕ → Bool) (b : ℕ) (bs : Bytes) → p b ≡ true → longest p (b ∷ bs) ≡ b ∷ longest p bs
+pub longest_more : (p : ℕ → Bool) (b : ℕ) (bs : Bytes) → p b ≡ true → longest p (b ∷ bs) ≡ b ∷ longest p bs
 unfolding longest
-longest-more p b bs h = rw h
+longest_more p b bs h = rw h
 
 -- behind bytes that pass
-pub longest-append : (p : ℕ → Bool) (a r : Bytes) → all p a ≡ true → longest p (a ++ r) ≡ a ++ longest p r
+pub longest_append : (p : ℕ → Bool) (a r : Bytes) → all p a ≡ true → longest p (a ++ r) ≡ a ++ longest p r
 unfolding longest all
-longest-append p [] r h = refl
-longest-append p (b ∷ a) r h =
-    rw (and_left (p b) (all p a) h) (ap (λ (l : Bytes). b ∷ l) (longest-append p a r (and_right (p b) (all p a) h)))
+longest_append p [] r h = refl
+longest_append p (b ∷ a) r h =
+    rw (and_left (p b) (all p a) h) (ap (λ (l : Bytes). b ∷ l) (longest_append p a r (and_right (p b) (all p a) h)))
 
 -- where it is as long as the text, it is the text
-pub longest-whole : (p : ℕ → Bool) (t : Bytes) → length (longest p t) ≡ length t → longest p t ≡ t
+pub longest_whole : (p : ℕ → Bool) (t : Bytes) → length (longest p t) ≡ length t → longest p t ≡ t
 unfolding longest
-longest-whole p [] h = refl
-longest-whole p (b ∷ bs) h =
+longest_whole p [] h = refl
+longest_whole p (b ∷ bs) h =
     by_cases (p b)
     (λ e.
     let k : suc (length (longest p bs)) ≡ suc (length bs) = rw e at h in
-    rw e (ap (λ (l : Bytes). b ∷ l) (longest-whole p bs (omega arith))))
+    rw e (ap (λ (l : Bytes). b ∷ l) (longest_whole p bs (omega arith))))
     (λ e. let k : 0 ≡ suc (length bs) = rw e at h in absurd (omega arith))
 
 -- and it is where every byte passes
-pub longest-of-all : (p : ℕ → Bool) (t : Bytes) → all p t ≡ true → longest p t ≡ t
+pub longest_of_all : (p : ℕ → Bool) (t : Bytes) → all p t ≡ true → longest p t ≡ t
 unfolding longest
-longest-of-all p t h = ap (longest p) (sym (append-nil t)) ∙ longest-append p t [] h ∙ append-nil t
+longest_of_all p t h = ap (longest p) (sym (append-nil t)) ∙ longest_append p t [] h ∙ append-nil t

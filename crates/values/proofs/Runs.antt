@@ -7,12 +7,12 @@ use mathlib.Core.Bool.{Bool, true, false}
 use mathlib.Core.List.{List, [], ◌∷◌}
 use lib.ListN.{length, drop, length-drop}
 use Rattle.lines.specs.Bytes.{Bytes, blank, all}
-use Rattle.lines.specs.Trim.{trimStart}
+use Rattle.lines.specs.Trim.{trim_start}
 use Rattle.lines.proofs.Bools.{by_cases, is_false}
-use Rattle.lines.proofs.Trimming.{trimStart-blank, trimStart-nonblank, trimStart-nil, length-trimStart}
+use Rattle.lines.proofs.Trimming.{trim_start-blank, trim_start_nonblank, trim_start_nil, length-trim_start}
 use Rattle.values.specs.Spans.{alike, runs, tokens, longest}
-use Rattle.values.proofs.Longest.{longest-all, longest-inside, longest-more}
-use Rattle.values.proofs.Classes.{Class, alike_same, blank-class}
+use Rattle.values.proofs.Longest.{longest-all, longest-inside, longest_more}
+use Rattle.values.proofs.Classes.{Class, alike_same, blank_class}
 
 -- ---- runs
 
@@ -31,25 +31,25 @@ runs-longest : (p : ℕ → Bool) → Class p → (b : ℕ) (bs : Bytes) → p b
     → runs (b ∷ bs) ≡ longest p (b ∷ bs) ∷ runs (drop (length (longest p (b ∷ bs))) (b ∷ bs))
 runs-longest p k b bs h =
     let e : alike b ≡ p = fun_ext (λ c. k b c h) in
-    rw (longest-more p b bs h) (rw e at (runs-alike b bs))
+    rw (longest_more p b bs h) (rw e at (runs-alike b bs))
 
 -- ---- tokens
 
 -- a run that starts with no blank is a token
-token-kept : (b : ℕ) (r : Bytes) (rs : List Bytes) → blank b ≡ false → tokens ((b ∷ r) ∷ rs) ≡ (b ∷ r) ∷ tokens rs
+token_kept : (b : ℕ) (r : Bytes) (rs : List Bytes) → blank b ≡ false → tokens ((b ∷ r) ∷ rs) ≡ (b ∷ r) ∷ tokens rs
 unfolding tokens all
-token-kept b r rs h = rw h
+token_kept b r rs h = rw h
 
-token-dropped : (r : Bytes) (rs : List Bytes) → all blank r ≡ true → tokens (r ∷ rs) ≡ tokens rs
+token_dropped : (r : Bytes) (rs : List Bytes) → all blank r ≡ true → tokens (r ∷ rs) ≡ tokens rs
 unfolding tokens
-token-dropped r rs h = rw h
+token_dropped r rs h = rw h
 
 -- the first token of a text that starts with a byte of a class other than blanks
 pub tokens-longest : (p : ℕ → Bool) → Class p → ((b : ℕ) → p b ≡ true → blank b ≡ false) → (b : ℕ) (bs : Bytes) → p b ≡ true
     → tokens (runs (b ∷ bs)) ≡ longest p (b ∷ bs) ∷ tokens (runs (drop (length (longest p (b ∷ bs))) (b ∷ bs)))
 tokens-longest p k n b bs h =
-    let e : longest p (b ∷ bs) ≡ b ∷ longest p bs = longest-more p b bs h in
-    ap tokens (runs-longest p k b bs h) ∙ rw e (token-kept b (longest p bs) _ (n b h))
+    let e : longest p (b ∷ bs) ≡ b ∷ longest p bs = longest_more p b bs h in
+    ap tokens (runs-longest p k b bs h) ∙ rw e (token_kept b (longest p bs) _ (n b h))
 
 -- the same where it is known only that the run is not empty
 pub tokens-run : (p : ℕ → Bool) → Class p → ((b : ℕ) → p b ≡ true → blank b ≡ false) → (t : Bytes) → 0 < length (longest p t)
@@ -62,22 +62,22 @@ tokens-run p k n (b ∷ bs) h =
     (λ e. let z : 0 < 0 = rw e at h in absurd (omega arith))
 
 -- blanks at the start go
-pub trimStart-drop : (t : Bytes) → trimStart t ≡ drop (length (longest blank t)) t
+pub trim_start-drop : (t : Bytes) → trim_start t ≡ drop (length (longest blank t)) t
 unfolding longest
-trimStart-drop [] = trimStart-nil
-trimStart-drop (b ∷ bs) =
+trim_start-drop [] = trim_start_nil
+trim_start-drop (b ∷ bs) =
     by_cases (blank b)
-    (λ e. trimStart-blank b bs e ∙ rw e (trimStart-drop bs))
-    (λ e. trimStart-nonblank b bs e ∙ rw e)
+    (λ e. trim_start-blank b bs e ∙ rw e (trim_start-drop bs))
+    (λ e. trim_start_nonblank b bs e ∙ rw e)
 
-pub tokens-trimStart : (t : Bytes) → tokens (runs t) ≡ tokens (runs (trimStart t))
-tokens-trimStart [] = rw trimStart-nil
-tokens-trimStart (b ∷ bs) =
+pub tokens-trim_start : (t : Bytes) → tokens (runs t) ≡ tokens (runs (trim_start t))
+tokens-trim_start [] = rw trim_start_nil
+tokens-trim_start (b ∷ bs) =
     by_cases (blank b)
-    (λ e. ap tokens (runs-longest blank blank-class b bs e)
-    ∙ token-dropped (longest blank (b ∷ bs)) _ (longest-all blank (b ∷ bs))
-    ∙ ap (λ (t : Bytes). tokens (runs t)) (sym (trimStart-drop (b ∷ bs))))
-    (λ e. ap (λ (t : Bytes). tokens (runs t)) (sym (trimStart-nonblank b bs e)))
+    (λ e. ap tokens (runs-longest blank blank_class b bs e)
+    ∙ token_dropped (longest blank (b ∷ bs)) _ (longest-all blank (b ∷ bs))
+    ∙ ap (λ (t : Bytes). tokens (runs t)) (sym (trim_start-drop (b ∷ bs))))
+    (λ e. ap (λ (t : Bytes). tokens (runs t)) (sym (trim_start_nonblank b bs e)))
 
 -- a byte that is no blank starts the first token
 pub record First (b : ℕ) (ws : List Bytes) : Type 0 where
@@ -93,30 +93,30 @@ first_run b bs =
       view = runs-alike b bs;
     }
 
-pub first-token : (b : ℕ) (bs : Bytes) → blank b ≡ false → First b (tokens (runs (b ∷ bs)))
-first-token b bs h =
+pub first_token : (b : ℕ) (bs : Bytes) → blank b ≡ false → First b (tokens (runs (b ∷ bs)))
+first_token b bs h =
     let f = first_run b bs in
     record {
       behind = f.behind;
       others = tokens f.others;
-      view = ap tokens f.view ∙ token-kept b f.behind f.others h;
+      view = ap tokens f.view ∙ token_kept b f.behind f.others h;
     }
 
 -- as many bytes as there are blanks
-pub trimmed-away : (t : Bytes) → length (trimStart t) + length (longest blank t) ≡ length t
-trimmed-away t =
-    let e : length (trimStart t) ≡ length t - length (longest blank t) = ap length (trimStart-drop t) ∙ length-drop (length (longest blank t)) t in
+pub trimmed_away : (t : Bytes) → length (trim_start t) + length (longest blank t) ≡ length t
+trimmed_away t =
+    let e : length (trim_start t) ≡ length t - length (longest blank t) = ap length (trim_start-drop t) ∙ length-drop (length (longest blank t)) t in
     omega (arith, e, longest-inside blank t)
 
 -- the first byte of a text that starts with no blank
-pub first-nonblank : (b : ℕ) (bs : Bytes) → trimStart (b ∷ bs) ≡ b ∷ bs → blank b ≡ false
-first-nonblank b bs h =
+pub first_nonblank : (b : ℕ) (bs : Bytes) → trim_start (b ∷ bs) ≡ b ∷ bs → blank b ≡ false
+first_nonblank b bs h =
     is_false (blank b)
     (λ e.
-    let l : length (trimStart bs) ≡ length (b ∷ bs) = ap length (sym (trimStart-blank b bs e) ∙ h) in
-    absurd (omega (arith, length-trimStart bs)))
+    let l : length (trim_start bs) ≡ length (b ∷ bs) = ap length (sym (trim_start-blank b bs e) ∙ h) in
+    absurd (omega (arith, length-trim_start bs)))
 
 -- it has a token, if it has a byte
-pub some-token : (t : Bytes) → 0 < length t → trimStart t ≡ t → 0 < length (tokens (runs t))
-some-token [] l h = absurd (omega arith)
-some-token (b ∷ bs) l h = let f = first-token b bs (first-nonblank b bs h) in rw f.view (omega arith)
+pub some_token : (t : Bytes) → 0 < length t → trim_start t ≡ t → 0 < length (tokens (runs t))
+some_token [] l h = absurd (omega arith)
+some_token (b ∷ bs) l h = let f = first_token b bs (first_nonblank b bs h) in rw f.view (omega arith)

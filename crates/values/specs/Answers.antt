@@ -21,15 +21,15 @@ place_of SpanForm = 0
 place_of SpanTooLarge = 0
 
 -- an error is a refusal
-abbrev pub errorMeans : {A : Type 0} → Error → Outcome A
-errorMeans e = refused (number_of e) (place_of e)
+abbrev pub error_means : {A : Type 0} → Error → Outcome A
+error_means e = refused (number_of e) (place_of e)
 
 -- an answer about a boolean: its truth, or the refusal
-abbrev pub booleanMeans : BooleanAnswer → Outcome Bool
-booleanMeans (BooleanAccepted b) = accepted b
-booleanMeans (BooleanRefused e) = errorMeans e
+abbrev pub boolean_means : BooleanAnswer → Outcome Bool
+boolean_means (BooleanAccepted b) = accepted b
+boolean_means (BooleanRefused e) = error_means e
 
 -- an answer about a span: its microseconds, or the refusal
-abbrev pub spanMeans : SpanAnswer → Outcome ℕ
-spanMeans (SpanAccepted n) = accepted n
-spanMeans (SpanRefused e) = errorMeans e
+abbrev pub span_means : SpanAnswer → Outcome ℕ
+span_means (SpanAccepted n) = accepted n
+span_means (SpanRefused e) = error_means e

@@ -5,7 +5,7 @@ use Rattle.lines.specs.Bytes.{Bytes, blank, digit, all}
 use Rattle.lines.specs.Trim.{trimmed}
 use Rattle.lines.specs.Answers.{refused}
 use Rattle.lines.specs.Laws.{All}
-use Rattle.values.specs.Spans.{decimal, second, scaleIn, units, longest, alike, runs, Part, spanParts, microseconds, limited, span_of}
+use Rattle.values.specs.Spans.{decimal, second, scale_in, units, longest, alike, runs, Part, span_parts, microseconds, limited, span_of}
 
 -- ---- runs
 
@@ -27,11 +27,11 @@ pub record Spelling : Type 0 where
 
 -- so it has to be: one or more digits, blanks that are blanks, and such a unit
 pub record SoundPart (p : Spelling) : Type 0 where
-  pub some-digit : 0 < length p.digits
+  pub some_digit : 0 < length p.digits
   pub all_digits : all digit p.digits ≡ true
-  pub gap-blank : all blank p.gap ≡ true
-  pub unit : scaleIn units p.name ≡ some p.scale
-  pub behind-blank : all blank p.behind ≡ true
+  pub gap_blank : all blank p.gap ≡ true
+  pub unit : scale_in units p.name ≡ some p.scale
+  pub behind_blank : all blank p.behind ≡ true
 
 -- the bytes of a part
 abbrev pub spelt : Spelling → Bytes
@@ -39,18 +39,18 @@ spelt p = p.digits ++ p.gap ++ p.name ++ p.behind
 
 -- And of parts, one after the other. Where all are sound, a name is followed by a blank, by the first digit of
 -- the next part, or by the end; so it is the longest run of letters there.
-abbrev pub allSpelt : List Spelling → Bytes
-allSpelt [] = []
-allSpelt (p ∷ ps) = spelt p ++ allSpelt ps
+abbrev pub all_spelt : List Spelling → Bytes
+all_spelt [] = []
+all_spelt (p ∷ ps) = spelt p ++ all_spelt ps
 
 -- what a part means
 abbrev pub meant : Spelling → Part
 meant p = record { number = decimal p.digits; scale = p.scale }
 
 -- what each of them means
-abbrev pub allMeant : List Spelling → List Part
-allMeant [] = []
-allMeant (p ∷ ps) = meant p ∷ allMeant ps
+abbrev pub all_meant : List Spelling → List Part
+all_meant [] = []
+all_meant (p ∷ ps) = meant p ∷ all_meant ps
 
 -- digits alone, with blanks or none around them
 pub record Seconds (t : Bytes) (ps : List Part) : Type 0 where
@@ -58,34 +58,34 @@ pub record Seconds (t : Bytes) (ps : List Part) : Type 0 where
   pub digits : Bytes
   pub behind : Bytes
   pub text : t ≡ before ++ digits ++ behind
-  pub before-blank : all blank before ≡ true
-  pub some-digit : 0 < length digits
+  pub before_blank : all blank before ≡ true
+  pub some_digit : 0 < length digits
   pub all_digits : all digit digits ≡ true
-  pub behind-blank : all blank behind ≡ true
+  pub behind_blank : all blank behind ≡ true
   pub part : ps ≡ record { number = decimal digits; scale = second } ∷ []
 
 -- one or more parts, with blanks or none before them
 pub record Parts (t : Bytes) (ps : List Part) : Type 0 where
   pub before : Bytes
   pub list : List Spelling
-  pub text : t ≡ before ++ allSpelt list
-  pub before-blank : all blank before ≡ true
-  pub some-part : 0 < length list
+  pub text : t ≡ before ++ all_spelt list
+  pub before_blank : all blank before ≡ true
+  pub some_part : 0 < length list
   pub sound : All SoundPart list
-  pub parts : ps ≡ allMeant list
+  pub parts : ps ≡ all_meant list
 
 -- a text with the form of a span, and its parts: it is one or the other
 pub data Spells (t : Bytes) (ps : List Part) : Type 0 where
-  as-seconds : Seconds t ps → Spells t ps
+  as_seconds : Seconds t ps → Spells t ps
   as_parts : Parts t ps → Spells t ps
 
 -- by the definition of a span these texts have the form, with these parts
 abbrev pub SpelledHasForm : Type 0
-SpelledHasForm = (t : Bytes) (ps : List Part) → Spells t ps → spanParts (trimmed t) ≡ some ps
+SpelledHasForm = (t : Bytes) (ps : List Part) → Spells t ps → span_parts (trimmed t) ≡ some ps
 
 -- and no others have it
 abbrev pub FormIsSpelled : Type 0
-FormIsSpelled = (t : Bytes) (ps : List Part) → spanParts (trimmed t) ≡ some ps → Spells t ps
+FormIsSpelled = (t : Bytes) (ps : List Part) → span_parts (trimmed t) ≡ some ps → Spells t ps
 
 -- so the answer is the sum of the parts where a text has the form, or 32 where that is too large,
 abbrev pub SpelledAnswer : Type 0

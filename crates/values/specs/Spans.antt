@@ -66,10 +66,10 @@ units =
     []
 
 -- the microseconds of the unit with this name, if there is one
-unfoldable pub scaleIn : List TimeUnit → Bytes → Option ℕ
+unfoldable pub scale_in : List TimeUnit → Bytes → Option ℕ
 unfolding equal
-scaleIn [] n = none
-scaleIn (u ∷ us) n = cond (equal n u.name) (some u.scale) (scaleIn us n)
+scale_in [] n = none
+scale_in (u ∷ us) n = cond (equal n u.name) (some u.scale) (scale_in us n)
 
 -- ---- the runs of a text
 
@@ -116,34 +116,34 @@ counted n (some s) = some (record { number = n; scale = s })
 -- Two tokens make a part: a number, and the name of a unit. Such a name is letters, and as a token it is the
 -- longest run of letters there.
 unfoldable pub part_of : Bytes → Bytes → Option Part
-unfolding numeral decimal scaleIn
-part_of n u = cond (numeral n) (counted (decimal n) (scaleIn units u)) none
+unfolding numeral decimal scale_in
+part_of n u = cond (numeral n) (counted (decimal n) (scale_in units u)) none
 
 -- one part more, where both it and the others have the form
-abbrev pub withPart : Option Part → Option (List Part) → Option (List Part)
-withPart none ps = none
-withPart (some p) none = none
-withPart (some p) (some ps) = some (p ∷ ps)
+abbrev pub with_part : Option Part → Option (List Part) → Option (List Part)
+with_part none ps = none
+with_part (some p) none = none
+with_part (some p) (some ps) = some (p ∷ ps)
 
 -- tokens by twos
 unfoldable pub parts_of : List Bytes → Option (List Part)
 unfolding part_of
 parts_of [] = some []
 parts_of (n ∷ []) = none
-parts_of (n ∷ u ∷ ts) = withPart (part_of n u) (parts_of ts)
+parts_of (n ∷ u ∷ ts) = with_part (part_of n u) (parts_of ts)
 
 -- one or more parts
-unfoldable pub oneOrMore : List Bytes → Option (List Part)
+unfoldable pub one_or_more : List Bytes → Option (List Part)
 unfolding parts_of
-oneOrMore [] = none
-oneOrMore (t ∷ ts) = parts_of (t ∷ ts)
+one_or_more [] = none
+one_or_more (t ∷ ts) = parts_of (t ∷ ts)
 
 -- a trimmed text: digits alone are seconds; any other has to be one or more parts, and none where it is not
-unfoldable pub spanParts : Bytes → Option (List Part)
-unfolding numeral decimal runs tokens oneOrMore
-spanParts t =
+unfoldable pub span_parts : Bytes → Option (List Part)
+unfolding numeral decimal runs tokens one_or_more
+span_parts t =
     cond (numeral t) (some (record { number = decimal t; scale = second } ∷ []))
-    (oneOrMore (tokens (runs t)))
+    (one_or_more (tokens (runs t)))
 
 -- ---- the value
 
@@ -153,12 +153,12 @@ microseconds [] = 0
 microseconds (p ∷ ps) = p.number * p.scale + microseconds ps
 
 -- the largest span
-abbrev pub largestSpan : ℕ
-largestSpan = 18446744073709551615
+abbrev pub largest_span : ℕ
+largest_span = 18446744073709551615
 
 -- a number of microseconds; 32 where it is too large
 abbrev pub limited : ℕ → Outcome ℕ
-limited n = cond (leb n largestSpan) (accepted n) (refused 32 0)
+limited n = cond (leb n largest_span) (accepted n) (refused 32 0)
 
 -- form before size: 31 where the form is wrong, whatever the numbers
 unfoldable pub sized : Option (List Part) → Outcome ℕ
@@ -168,5 +168,5 @@ sized (some ps) = limited (microseconds ps)
 
 -- a span is read after trimming
 unfoldable pub span_of : Bytes → Outcome ℕ
-unfolding trimmed spanParts sized
-span_of t = sized (spanParts (trimmed t))
+unfolding trimmed span_parts sized
+span_of t = sized (span_parts (trimmed t))

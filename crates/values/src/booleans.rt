@@ -1,7 +1,7 @@
 // Booleans: eight words.
 ghost use Rattle.std.specs.Prelude.{◌≡◌, [], ◌∷◌};
-ghost use Rattle.values.specs.Booleans.{among, booleanOf};
-ghost use Rattle.values.specs.Answers.{booleanMeans};
+ghost use Rattle.values.specs.Booleans.{among, boolean_of};
+ghost use Rattle.values.specs.Answers.{boolean_means};
 
 use crate::error::Error;
 use lines::same;
@@ -30,7 +30,7 @@ fn is_among(text: &[u8], a: &[u8], b: &[u8], c: &[u8], d: &[u8]) -> bool
 
 // The truth that a text states: exactly one of the eight words, with no blank around it. 30 for any other.
 pub fn boolean(text: &[u8]) -> BooleanAnswer
-    ensures { booleanMeans result ≡ booleanOf text.now }
+    ensures { boolean_means result ≡ boolean_of text.now }
 {
     if is_among(text, b"1", b"yes", b"true", b"on") {
         return BooleanAnswer::Accepted(true);

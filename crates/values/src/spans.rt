@@ -1,10 +1,10 @@
 // Time spans.
 ghost use Rattle.std.specs.Prelude.{◌≡◌, ℕ, ◌-◌, ◌<◌, true, length};
 ghost use Rattle.lines.specs.Bytes.{blank, digit, letter};
-ghost use Rattle.lines.specs.Trim.{trimStart};
-ghost use Rattle.values.specs.Spans.{scaleIn, units, runs, tokens, parts_of, span_of, limited, longest};
-ghost use Rattle.values.specs.Answers.{spanMeans};
-ghost use Rattle.values.specs.Steps.{Stands, scaleMeans, NumberAt, PartAt, SumOf};
+ghost use Rattle.lines.specs.Trim.{trim_start};
+ghost use Rattle.values.specs.Spans.{scale_in, units, runs, tokens, parts_of, span_of, limited, longest};
+ghost use Rattle.values.specs.Answers.{span_means};
+ghost use Rattle.values.specs.Steps.{Stands, scale_means, NumberAt, PartAt, SumOf};
 
 use crate::amount::{Amount, plus, push, times};
 use crate::error::Error;
@@ -108,7 +108,7 @@ fn blanks(text: &[u8]) -> usize
 
 // How many microseconds the unit with this name has.
 fn scale_of(name: &[u8]) -> Scale
-    ensures { scaleMeans result ≡ scaleIn units name.now }
+    ensures { scale_means result ≡ scale_in units name.now }
 {
     if same(name, b"us") {
         return Scale::Microseconds(1);
@@ -137,7 +137,7 @@ fn scale_of(name: &[u8]) -> Scale
 // The part that a text starts with, and the blanks behind it. Its number has been read. The text starts with
 // no blank; an empty one has no part.
 fn part(text: &[u8], number: Number) -> NextPart
-    requires { (trimStart text.now ≡ text.now) × NumberAt text.now number }
+    requires { (trim_start text.now ≡ text.now) × NumberAt text.now number }
     ensures { PartAt text.now result }
 {
     let count = number.amount;
@@ -158,7 +158,7 @@ fn part(text: &[u8], number: Number) -> NextPart
 // The sum of all parts of a text that starts with no blank. Its first number has been read. An empty text has no
 // part, and the sum 0.
 fn sum_parts(text: &[u8], first: Number) -> Sum
-    requires { (trimStart text.now ≡ text.now) × NumberAt text.now first }
+    requires { (trim_start text.now ≡ text.now) × NumberAt text.now first }
     ensures { SumOf (parts_of (tokens (runs text.now))) result }
 {
     let mut total = Amount::Exact(0);
@@ -181,7 +181,7 @@ fn sum_parts(text: &[u8], first: Number) -> Sum
 
 // The answer for the sum of a text that has the form: 32 where it is too large.
 fn judged(total: Amount) -> SpanAnswer
-    ensures { (v : ℕ) → Stands total v → spanMeans result ≡ limited v }
+    ensures { (v : ℕ) → Stands total v → span_means result ≡ limited v }
 {
     match total {
         Amount::Exact(n) => SpanAnswer::Accepted(n),
@@ -192,7 +192,7 @@ fn judged(total: Amount) -> SpanAnswer
 // How many microseconds a text states. Blanks at its ends do not count. 31 where it has not the form, however
 // large its numbers are, and 32 where the sum is too large.
 pub fn span(text: &[u8]) -> SpanAnswer
-    ensures { spanMeans result ≡ span_of text.now }
+    ensures { span_means result ≡ span_of text.now }
 {
     let trimmed = lines::trim(text);
     if trimmed.len() == 0 {

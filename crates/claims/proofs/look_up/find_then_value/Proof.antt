@@ -1,6 +1,6 @@
 -- `find_then_value`: look-up, then the value, copied.
 use Rattle.lookup.specs.Decoding.{lent}
-use Rattle.claims.proofs.FileEntries.{asks-found, asks-missing}
+use Rattle.claims.proofs.FileEntries.{asks_found, asks_missing}
 use borrow.Author.Rules.{rules}
 use Rattle.claims.proofs.look_up.find_then_value.Statement.{statement}
 use Rattle.claims.proofs.look_up.find_then_value.Tie as tie
@@ -30,13 +30,13 @@ returns c = let o = c.before.before in
     let f = n.before.before in
     let s = f.before.before.before.before.before.before.before in
     let a = s.args in
-    asks-found (lent a.text.now a.sections.now a.section-count a.entries.now a.entry-count) a.which a.section.now a.key.now a.out.now f.find.result n.index.given.0.0 n.index.given.1 f.find.ensures a.text.ref_ptr v.value.result.ref_ptr v.value.result.now v.value.ensures s.requires o.copy-into.new.1.0 o.copy-into.ensures.1
+    asks_found (lent a.text.now a.sections.now a.section_count_lem a.entries.now a.entry_count_lem) a.which a.section.now a.key.now a.out.now f.find.result n.index.given.0.0 n.index.given.1 f.find.ensures a.text.ref_ptr v.value.result.ref_ptr v.value.result.now v.value.ensures s.requires o.copy-into.new.1.0 o.copy-into.ensures.1
 
 returns-2 : tie.Need-returns-2
 returns-2 c = let n = c.before in
     let f = n.before.before in
     let a = f.before.before.before.before.before.before.before.args in
-    asks-missing (lent a.text.now a.sections.now a.section-count a.entries.now a.entry-count) a.which a.section.now a.key.now a.out.now f.find.result n.e.given.0.0 n.e.given.1 f.find.ensures
+    asks_missing (lent a.text.now a.sections.now a.section_count_lem a.entries.now a.entry_count_lem) a.which a.section.now a.key.now a.out.now f.find.result n.e.given.0.0 n.e.given.1 f.find.ensures
 
 pub find-then-value-spec : {M : Type 1} → statement M
 find-then-value-spec =

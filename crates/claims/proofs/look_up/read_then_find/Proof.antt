@@ -1,11 +1,11 @@
 -- `read_then_find`: the buffer, the read call, then the questions.
-use Rattle.claims.proofs.FileEntries.{gets-short, gets-refused, gets-asked}
+use Rattle.claims.proofs.FileEntries.{gets_short, gets_refused, gets_asked}
 use borrow.Author.Rules.{rules}
 use Rattle.claims.proofs.look_up.read_then_find.Statement.{statement}
 use Rattle.claims.proofs.look_up.read_then_find.Tie as tie
 
 returns : tie.Need-returns
-returns c = gets-short _ _ _ _ _ c.if1.true
+returns c = gets_short _ _ _ _ _ c.if1.true
 
 slice-aggregate-read : tie.Need-slice-aggregate-read
 slice-aggregate-read c = search rules
@@ -46,14 +46,14 @@ returns-2 c = let q = c.before.before in
     let r = n.before.before.before.before.before in
     let e = r.before.before.before.before in
     let a = e.before.before.before.before.before.args in
-    gets-asked a.file.now a.which a.section.now a.key.now a.out.now e.if1.false _ _ _ r.read.result _ _ _ r.read.ensures _ _ _ n.s.given.1 q.find-then-value.result _ q.find-then-value.ensures
+    gets_asked a.file.now a.which a.section.now a.key.now a.out.now e.if1.false _ _ _ r.read.result _ _ _ r.read.ensures _ _ _ n.s.given.1 q.find-then-value.result _ q.find-then-value.ensures
 
 returns-3 : tie.Need-returns-3
 returns-3 c = let n = c.before in
     let r = n.before.before.before.before.before in
     let e = r.before.before.before.before in
     let a = e.before.before.before.before.before.args in
-    gets-refused a.file.now a.which a.section.now a.key.now a.out.now e.if1.false _ _ _ r.read.result _ _ _ r.read.ensures (search rules) (search rules) (search rules) n.e.given.0.0 n.e.given.1
+    gets_refused a.file.now a.which a.section.now a.key.now a.out.now e.if1.false _ _ _ r.read.result _ _ _ r.read.ensures (search rules) (search rules) (search rules) n.e.given.0.0 n.e.given.1
 
 pub read-then-find-spec : {M : Type 1} → statement M
 read-then-find-spec =

@@ -1,7 +1,7 @@
 -- `compare_other`: the call on the second file, then the copy and the comparison.
 use native.Mathlib.Omega.{arith}
-use Rattle.claims.proofs.FileTexts.{into-text}
-use Rattle.claims.proofs.Alike.{compares-accepted, compares-refused}
+use Rattle.claims.proofs.FileTexts.{into_text}
+use Rattle.claims.proofs.Alike.{compares_accepted, compares_refused}
 use borrow.Author.Rules.{rules}
 use Rattle.claims.proofs.two_texts.compare_other.Statement.{statement}
 use Rattle.claims.proofs.two_texts.compare_other.Tie as tie
@@ -27,7 +27,7 @@ part-same-end c = let o = c in
     let r = o.before.before.before.before.before.before.before.before.before.before in
     let s = r.before.before.before.before.before.before in
     let a = s.args in
-    omega (arith, (into-text a.other.now a.other-out.now r.normal-into.result _ r.normal-into.ensures _ _ _ _ l.length.given.1).inside)
+    omega (arith, (into_text a.other.now a.other-out.now r.normal-into.result _ r.normal-into.ensures _ _ _ _ l.length.given.1).inside)
 
 same-requires : tie.Need-same-requires
 same-requires c κs = search rules
@@ -47,7 +47,7 @@ returns c = let o = c.before.before in
     let r = o.before.before.before.before.before.before.before.before.before.before in
     let s = r.before.before.before.before.before.before in
     let a = s.args in
-    compares-accepted a.text.now a.other.now a.out.now a.other-out.now r.normal-into.result _ s.requires.1 r.normal-into.ensures _ _ _ _ l.length.given.1 s.requires.0 _ o.before.before.before.copy-into.ensures.1 c.same.result c.same.ensures
+    compares_accepted a.text.now a.other.now a.out.now a.other-out.now r.normal-into.result _ s.requires.1 r.normal-into.ensures _ _ _ _ l.length.given.1 s.requires.0 _ o.before.before.before.copy-into.ensures.1 c.same.result c.same.ensures
 
 same-length-3 : tie.Need-same-length-3
 same-length-3 c = search rules
@@ -56,7 +56,7 @@ returns-2 : tie.Need-returns-2
 returns-2 c = let r = c.before.before.before.before.before in
     let s = r.before.before.before.before.before.before in
     let a = s.args in
-    compares-refused a.text.now a.other.now a.out.now a.other-out.now r.normal-into.result _ s.requires.1 r.normal-into.ensures _ c.before.e.given.1
+    compares_refused a.text.now a.other.now a.out.now a.other-out.now r.normal-into.result _ s.requires.1 r.normal-into.ensures _ c.before.e.given.1
 
 pub compare-other-spec : {M : Type 1} → statement M
 compare-other-spec =

@@ -1,5 +1,5 @@
 -- `normal_into`: the call, with buffers of the sizes that are asked for.
-use Rattle.claims.proofs.FileTexts.{into-holds}
+use Rattle.claims.proofs.FileTexts.{into_holds}
 use borrow.Author.Rules.{rules}
 use Rattle.claims.proofs.two_texts.normal_into.Statement.{statement}
 use Rattle.claims.proofs.two_texts.normal_into.Tie as tie
@@ -22,7 +22,7 @@ same_length c = search rules
 returns : tie.Need-returns
 returns c = let r = c.before.before.before.before.before in
     let a = r.before.before.before.before.before.before.before.args in
-    into-holds a.file.now _ _ _ a.out.now r.normal-text.result _ _ _ _ r.normal-text.ensures (search rules) (search rules) (search rules)
+    into_holds a.file.now _ _ _ a.out.now r.normal-text.result _ _ _ _ r.normal-text.ensures (search rules) (search rules) (search rules)
 
 pub normal-into-spec : {M : Type 1} → statement M
 normal-into-spec =

@@ -1,13 +1,13 @@
 -- `normal_twice`: the buffer, then each call by its promise; the second is never refused.
 use native.Mathlib.Omega.{arith}
-use Rattle.claims.proofs.FileTexts.{into-text}
-use Rattle.claims.proofs.Twice.{twice-short, twice-refused, twice-never, twice-held}
+use Rattle.claims.proofs.FileTexts.{into_text}
+use Rattle.claims.proofs.Twice.{twice_short, twice_refused, twice_never, twice_held}
 use borrow.Author.Rules.{rules}
 use Rattle.claims.proofs.two_texts.normal_twice.Statement.{statement}
 use Rattle.claims.proofs.two_texts.normal_twice.Tie as tie
 
 returns : tie.Need-returns
-returns c = twice-short _ _ _ c.if1.true
+returns c = twice_short _ _ _ c.if1.true
 
 normal-into-requires : tie.Need-normal-into-requires
 normal-into-requires c κs = search rules
@@ -27,7 +27,7 @@ part-normal-into-end c = let o = c in
     let r = o.before.before.before.before.before.before in
     let e = r.before.before in
     let a = e.before.before.before.before.args in
-    omega (arith, (into-text a.file.now a.out.now r.normal-into.result _ r.normal-into.ensures _ _ _ _ l.length.given.1).inside)
+    omega (arith, (into_text a.file.now a.out.now r.normal-into.result _ r.normal-into.ensures _ _ _ _ l.length.given.1).inside)
 
 normal-into-requires-2 : tie.Need-normal-into-requires-2
 normal-into-requires-2 c κs = search rules
@@ -54,7 +54,7 @@ returns-2 c = let s = c.before.before.before.before.before in
     let r = o.before.before.before.before.before.before in
     let e = r.before.before in
     let a = e.before.before.before.before.args in
-    twice-held a.file.now a.out.now a.again.now e.if1.false r.normal-into.result _ r.normal-into.ensures _ _ _ _ l.length.given.1 s.normal-into2.result _ s.normal-into2.ensures _ _ _ _ c.before.n.given.1
+    twice_held a.file.now a.out.now a.again.now e.if1.false r.normal-into.result _ r.normal-into.ensures _ _ _ _ l.length.given.1 s.normal-into2.result _ s.normal-into2.ensures _ _ _ _ c.before.n.given.1
 
 same-length-3 : tie.Need-same-length-3
 same-length-3 c = search rules
@@ -69,7 +69,7 @@ returns-3 c = let s = c.before.before.before.before.before in
     let r = o.before.before.before.before.before.before in
     let e = r.before.before in
     let a = e.before.before.before.before.args in
-    twice-never a.file.now a.out.now a.again.now e.if1.false r.normal-into.result _ r.normal-into.ensures _ _ _ _ l.length.given.1 s.normal-into2.result _ s.normal-into2.ensures _ c.before.e.given.1
+    twice_never a.file.now a.out.now a.again.now e.if1.false r.normal-into.result _ r.normal-into.ensures _ _ _ _ l.length.given.1 s.normal-into2.result _ s.normal-into2.ensures _ c.before.e.given.1
 
 same-length-5 : tie.Need-same-length-5
 same-length-5 c = search rules
@@ -78,7 +78,7 @@ returns-4 : tie.Need-returns-4
 returns-4 c = let r = c.before.before.before.before.before in
     let e = r.before.before in
     let a = e.before.before.before.before.args in
-    twice-refused a.file.now a.out.now a.again.now e.if1.false r.normal-into.result _ r.normal-into.ensures _ c.before.e2.given.1
+    twice_refused a.file.now a.out.now a.again.now e.if1.false r.normal-into.result _ r.normal-into.ensures _ c.before.e2.given.1
 
 pub normal-twice-spec : {M : Type 1} → statement M
 normal-twice-spec =

@@ -1,15 +1,15 @@
 -- `set_alike`: the buffers, the call on the first file, then the second.
 use native.Mathlib.Omega.{arith}
-use Rattle.claims.proofs.Alike.{alike-short-out, alike-short-other, alike-refused, text-inside, text-fits-out, alike-compared}
+use Rattle.claims.proofs.Alike.{alike_short_out, alike_short_other, alike_refused, text_inside, text_fits_out, alike-compared}
 use borrow.Author.Rules.{rules}
 use Rattle.claims.proofs.two_texts.set_alike.Statement.{statement}
 use Rattle.claims.proofs.two_texts.set_alike.Tie as tie
 
 returns : tie.Need-returns
-returns c = alike-short-out _ _ _ _ c.if1.true
+returns c = alike_short_out _ _ _ _ c.if1.true
 
 returns-2 : tie.Need-returns-2
-returns-2 c = alike-short-other _ _ _ _ c.if2.true
+returns-2 c = alike_short_other _ _ _ _ c.if2.true
 
 slice-aggregate-normal-into : tie.Need-slice-aggregate-normal-into
 slice-aggregate-normal-into c = search rules
@@ -32,7 +32,7 @@ part-compare-other-end c = let o = c in
     let r = o.before.before.before.before.before in
     let e = r.before.before in
     let a = e.before.before.before.before.before.before.args in
-    omega (arith, text-inside a.file.now a.other.now a.out.now a.other-out.now e.before.if1.false e.if2.false _ (search rules) r.normal-into.result _ r.normal-into.ensures _ _ _ _ l.length.given.1)
+    omega (arith, text_inside a.file.now a.other.now a.out.now a.other-out.now e.before.if1.false e.if2.false _ (search rules) r.normal-into.result _ r.normal-into.ensures _ _ _ _ l.length.given.1)
 
 compare-other-requires : tie.Need-compare-other-requires
 compare-other-requires c κs = let o = c.before.before.before in
@@ -40,7 +40,7 @@ compare-other-requires c κs = let o = c.before.before.before in
     let r = o.before.before.before.before.before in
     let e = r.before.before in
     let a = e.before.before.before.before.before.before.args in
-    (text-fits-out a.file.now a.other.now a.out.now a.other-out.now e.before.if1.false e.if2.false _ (search rules) r.normal-into.result _ r.normal-into.ensures _ _ _ _ l.length.given.1, e.if2.false)
+    (text_fits_out a.file.now a.other.now a.out.now a.other-out.now e.before.if1.false e.if2.false _ (search rules) r.normal-into.result _ r.normal-into.ensures _ _ _ _ l.length.given.1, e.if2.false)
 
 enum-known-e : tie.Need-enum-known-e
 enum-known-e c = search rules
@@ -64,7 +64,7 @@ returns-4 : tie.Need-returns-4
 returns-4 c = let r = c.before.before.before.before in
     let e = r.before.before in
     let a = e.before.before.before.before.before.before.args in
-    alike-refused a.file.now a.other.now a.out.now a.other-out.now e.before.if1.false e.if2.false _ (search rules) r.normal-into.result _ r.normal-into.ensures _ c.before.e.given.1
+    alike_refused a.file.now a.other.now a.out.now a.other-out.now e.before.if1.false e.if2.false _ (search rules) r.normal-into.result _ r.normal-into.ensures _ c.before.e.given.1
 
 pub set-alike-spec : {M : Type 1} → statement M
 set-alike-spec =

@@ -1,13 +1,13 @@
 -- `havtsulen_normal_text`: a short report, or what the function below it has answered.
 use native.Mathlib.Omega.{arith}
-use Rattle.havtsulen.proofs.FileCalls.{normal-short, normal-accepted, normal-refused}
+use Rattle.havtsulen.proofs.FileCalls.{normal_short, normal_accepted, normal_refused}
 use borrow.Author.Rules.{rules}
 use Rattle.havtsulen.proofs.files.havtsulen_normal_text.Statement.{statement}
 use Rattle.havtsulen.proofs.files.havtsulen_normal_text.Tie as tie
 
 returns : tie.Need-returns
 returns c = let a = c.before.before.before.before.before.before.before.args in
-    normal-short a.file.now a.text.now a.sections.now a.entries.now a.out.now a.report.now (omega (arith, c.if1.true))
+    normal_short a.file.now a.text.now a.sections.now a.entries.now a.out.now a.report.now (omega (arith, c.if1.true))
 
 normal-text-requires : tie.Need-normal-text-requires
 normal-text-requires c κs = search rules
@@ -47,7 +47,7 @@ same-length-5 c = search rules
 
 returns-2 : tie.Need-returns-2
 returns-2 c = let p = c.before.before in let x = p.before.before.before in let k = x.before.before.before.before.before.before.before.before.before.before in let e = k.before.before.before.before.before in let a = e.before.before.before.before.before.before.before.args in
-    normal-accepted a.file.now a.text.now a.sections.now a.entries.now a.out.now a.report.now e.if1.false k.normal-text.result _ _ _ _ k.normal-text.ensures _ _ _ _ _ _ x.length.given.1 p.reply.ensures
+    normal_accepted a.file.now a.text.now a.sections.now a.entries.now a.out.now a.report.now e.if1.false k.normal-text.result _ _ _ _ k.normal-text.ensures _ _ _ _ _ _ x.length.given.1 p.reply.ensures
 
 same-length-6 : tie.Need-same-length-6
 same-length-6 c = search rules
@@ -66,7 +66,7 @@ same-length-10 c = search rules
 
 returns-3 : tie.Need-returns-3
 returns-3 c = let p = c.before.before in let q = p.before.before in let n = q.before in let x = n.before.before in let k = x.before.before.before.before.before.before.before.before.before.before in let e = k.before.before.before.before.before in let a = e.before.before.before.before.before.before.before.args in
-    normal-refused a.file.now a.text.now a.sections.now a.entries.now a.out.now a.report.now e.if1.false k.normal-text.result _ _ _ _ k.normal-text.ensures _ _ _ x.e.given.1 _ _ n.number.ensures q.place.ensures p.reply2.ensures
+    normal_refused a.file.now a.text.now a.sections.now a.entries.now a.out.now a.report.now e.if1.false k.normal-text.result _ _ _ _ k.normal-text.ensures _ _ _ x.e.given.1 _ _ n.number.ensures q.place.ensures p.reply2.ensures
 
 pub havtsulen-normal-text-spec : {M : Type 1} → statement M
 havtsulen-normal-text-spec =

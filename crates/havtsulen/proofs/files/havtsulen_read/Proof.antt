@@ -1,6 +1,6 @@
 -- `havtsulen_read`: a short report, or what the function below it has answered.
 use native.Mathlib.Omega.{arith}
-use Rattle.havtsulen.proofs.FileCalls.{read_short, read-accepted, read-refused}
+use Rattle.havtsulen.proofs.FileCalls.{read_short, read_accepted, read_refused}
 use borrow.Author.Rules.{rules}
 use Rattle.havtsulen.proofs.files.havtsulen_read.Statement.{statement}
 use Rattle.havtsulen.proofs.files.havtsulen_read.Tie as tie
@@ -44,7 +44,7 @@ same-length-4 c = search rules
 
 returns-2 : tie.Need-returns-2
 returns-2 c = let p = c.before.before in let x = p.before.before.before in let k = x.before.before.before.before.before.before.before.before in let e = k.before.before.before.before in let a = e.before.before.before.before.before.before.args in
-    read-accepted a.file.now a.text.now a.sections.now a.entries.now a.report.now e.if1.false k.read.result _ _ _ k.read.ensures _ _ _ _ _ x.t.given.1 p.reply.ensures
+    read_accepted a.file.now a.text.now a.sections.now a.entries.now a.report.now e.if1.false k.read.result _ _ _ k.read.ensures _ _ _ _ _ x.t.given.1 p.reply.ensures
 
 same-length-5 : tie.Need-same-length-5
 same-length-5 c = search rules
@@ -60,7 +60,7 @@ same-length-8 c = search rules
 
 returns-3 : tie.Need-returns-3
 returns-3 c = let p = c.before.before in let q = p.before.before in let n = q.before in let x = n.before.before in let k = x.before.before.before.before.before.before.before.before in let e = k.before.before.before.before in let a = e.before.before.before.before.before.before.args in
-    read-refused a.file.now a.text.now a.sections.now a.entries.now a.report.now e.if1.false k.read.result _ _ _ k.read.ensures _ _ _ x.e.given.1 _ _ n.number.ensures q.place.ensures p.reply2.ensures
+    read_refused a.file.now a.text.now a.sections.now a.entries.now a.report.now e.if1.false k.read.result _ _ _ k.read.ensures _ _ _ x.e.given.1 _ _ n.number.ensures q.place.ensures p.reply2.ensures
 
 pub havtsulen-read-spec : {M : Type 1} → statement M
 havtsulen-read-spec =

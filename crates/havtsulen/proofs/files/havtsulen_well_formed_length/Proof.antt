@@ -1,13 +1,13 @@
 -- `havtsulen_well_formed_length`: a short report, or what the function below it has answered.
 use native.Mathlib.Omega.{arith}
-use Rattle.havtsulen.proofs.FileCalls.{length-short, length-told}
+use Rattle.havtsulen.proofs.FileCalls.{length_short, length_told}
 use borrow.Author.Rules.{rules}
 use Rattle.havtsulen.proofs.files.havtsulen_well_formed_length.Statement.{statement}
 use Rattle.havtsulen.proofs.files.havtsulen_well_formed_length.Tie as tie
 
 returns : tie.Need-returns
 returns c = let a = c.before.before.before.args in
-    length-short a.text.now a.report.now (omega (arith, c.if1.true))
+    length_short a.text.now a.report.now (omega (arith, c.if1.true))
 
 well-formed-length-requires : tie.Need-well-formed-length-requires
 well-formed-length-requires c κs = search rules
@@ -20,7 +20,7 @@ same_length c = search rules
 
 returns-2 : tie.Need-returns-2
 returns-2 c = let p = c.before.before in let k = p.before.before in let e = k.before in let a = e.before.before.before.args in
-    length-told a.text.now a.report.now e.if1.false _ k.well-formed-length.ensures _ _ p.reply.ensures
+    length_told a.text.now a.report.now e.if1.false _ k.well-formed-length.ensures _ _ p.reply.ensures
 
 pub havtsulen-well-formed-length-spec : {M : Type 1} → statement M
 havtsulen-well-formed-length-spec =

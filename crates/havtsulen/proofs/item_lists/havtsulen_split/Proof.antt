@@ -1,13 +1,13 @@
 -- `havtsulen_split`: a short report, or what the function below it has answered.
 use native.Mathlib.Omega.{arith}
-use Rattle.havtsulen.proofs.ListCalls.{split-short, split-accepted, split-refused}
+use Rattle.havtsulen.proofs.ListCalls.{split_short, split_accepted, split_refused}
 use borrow.Author.Rules.{rules}
 use Rattle.havtsulen.proofs.item_lists.havtsulen_split.Statement.{statement}
 use Rattle.havtsulen.proofs.item_lists.havtsulen_split.Tie as tie
 
 returns : tie.Need-returns
 returns c = let a = c.before.before.before.before.before.args in
-    split-short a.text.now a.bytes.now a.ends.now a.report.now (omega (arith, c.if1.true))
+    split_short a.text.now a.bytes.now a.ends.now a.report.now (omega (arith, c.if1.true))
 
 split-requires : tie.Need-split-requires
 split-requires c κs = search rules
@@ -41,7 +41,7 @@ same-length-3 c = search rules
 
 returns-2 : tie.Need-returns-2
 returns-2 c = let p = c.before.before in let x = p.before.before.before in let k = x.before.before.before.before.before.before in let e = k.before.before.before in let a = e.before.before.before.before.before.args in
-    split-accepted a.text.now a.bytes.now a.ends.now a.report.now e.if1.false k.split.result _ _ k.split.ensures _ _ _ _ x.count.given.1 p.reply.ensures
+    split_accepted a.text.now a.bytes.now a.ends.now a.report.now e.if1.false k.split.result _ _ k.split.ensures _ _ _ _ x.count.given.1 p.reply.ensures
 
 same-length-4 : tie.Need-same-length-4
 same-length-4 c = search rules
@@ -54,7 +54,7 @@ same-length-6 c = search rules
 
 returns-3 : tie.Need-returns-3
 returns-3 c = let p = c.before.before in let q = p.before.before in let n = q.before in let x = n.before.before in let k = x.before.before.before.before.before.before in let e = k.before.before.before in let a = e.before.before.before.before.before.args in
-    split-refused a.text.now a.bytes.now a.ends.now a.report.now e.if1.false k.split.result _ _ k.split.ensures _ _ _ x.e.given.1 _ _ n.number.ensures q.place.ensures p.reply2.ensures
+    split_refused a.text.now a.bytes.now a.ends.now a.report.now e.if1.false k.split.result _ _ k.split.ensures _ _ _ x.e.given.1 _ _ n.number.ensures q.place.ensures p.reply2.ensures
 
 pub havtsulen-split-spec : {M : Type 1} → statement M
 havtsulen-split-spec =

@@ -3,7 +3,7 @@ use mathlib.Core.Path.{refl}
 use native.Mathlib.Omega.{arith}
 use mathlib.Core.List.{[], ◌∷◌}
 use lib.ListN.{length-set}
-use Rattle.lines.proofs.Stores.{store-four}
+use Rattle.lines.proofs.Stores.{store_four}
 use borrow.Author.Rules.{rules}
 use Rattle.havtsulen.proofs.report.reply.Statement.{statement}
 use Rattle.havtsulen.proofs.report.reply.Tie as tie
@@ -27,7 +27,7 @@ returns : tie.Need-returns
 returns c = let a = c.args in
     record {
       answer = refl;
-      report-after = store-four a.report.now (a.first ∷ a.second ∷ a.third ∷ a.fourth ∷ []) 0 (omega (arith, c.requires)) (omega arith);
+      new_report = store_four a.report.now (a.first ∷ a.second ∷ a.third ∷ a.fourth ∷ []) 0 (omega (arith, c.requires)) (omega arith);
     }
 
 pub reply-spec : {M : Type 1} → statement M

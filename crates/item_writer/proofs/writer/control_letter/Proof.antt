@@ -1,39 +1,39 @@
 -- `control_letter` is the list of letters, byte by byte.
 use borrow.Author.Tests.{ne_eqb}
-use Rattle.items.specs.Write.{letterOf}
+use Rattle.items.specs.Write.{letter_of}
 use Rattle.item_writer.proofs.writer.control_letter.Statement.{statement}
 use Rattle.item_writer.proofs.writer.control_letter.Tie as tie
 
 returns : tie.Need-returns
-unfolding letterOf
+unfolding letter_of
 returns c = rw c.match.keys1
 
 returns-2 : tie.Need-returns-2
-unfolding letterOf
+unfolding letter_of
 returns-2 c = rw c.match.keys2
 
 returns-3 : tie.Need-returns-3
-unfolding letterOf
+unfolding letter_of
 returns-3 c = rw c.match.keys3
 
 returns-4 : tie.Need-returns-4
-unfolding letterOf
+unfolding letter_of
 returns-4 c = rw c.match.keys4
 
 returns-5 : tie.Need-returns-5
-unfolding letterOf
+unfolding letter_of
 returns-5 c = rw c.match.keys5
 
 returns-6 : tie.Need-returns-6
-unfolding letterOf
+unfolding letter_of
 returns-6 c = rw c.match.keys6
 
 returns-7 : tie.Need-returns-7
-unfolding letterOf
+unfolding letter_of
 returns-7 c = rw c.match.keys7
 
 returns-8 : tie.Need-returns-8
-unfolding letterOf
+unfolding letter_of
 returns-8 c =
     let n = c.match.rest in
     simp (

@@ -1,8 +1,8 @@
 -- `put_byte` puts one of the three forms of a byte.
 use mathlib.Core.Path.{sym, ◌∙◌}
 use native.Mathlib.Omega.{arith}
-use Rattle.lines.proofs.Putting.{puts-byte, puts-copied}
-use Rattle.item_writer.proofs.Forms.{as-letter, as-itself, as-digits}
+use Rattle.lines.proofs.Putting.{puts_byte, puts_copied}
+use Rattle.item_writer.proofs.Forms.{as_letter, as_itself, as_digits}
 use borrow.Author.Rules.{rules}
 use Rattle.item_writer.proofs.writer.put_byte.Statement.{statement}
 use Rattle.item_writer.proofs.writer.put_byte.Tie as tie
@@ -26,7 +26,7 @@ returns : tie.Need-returns
 returns c =
     let p = c.before.before in
     let t = p.before.before.before in
-    rw (as-letter _ _ t.before.letter-of.ensures t.if1.true) (puts-copied _ _ _ _ (omega arith) p.copy-into.ensures.1)
+    rw (as_letter _ _ t.before.letter-of.ensures t.if1.true) (puts_copied _ _ _ _ (omega arith) p.copy-into.ensures.1)
 
 is-between-requires : tie.Need-is-between-requires
 is-between-requires c κs = search rules
@@ -43,8 +43,8 @@ same-length-2 c = search rules
 returns-2 : tie.Need-returns-2
 returns-2 c =
     let e = c.before.before in
-    rw (as-itself _ _ e.before.letter-of.ensures e.if1.false (sym c.before.is-between.ensures ∙ c.if2.true))
-    (puts-byte _ _ _ (omega arith))
+    rw (as_itself _ _ e.before.letter-of.ensures e.if1.false (sym c.before.is-between.ensures ∙ c.if2.true))
+    (puts_byte _ _ _ (omega arith))
 
 hex-digit-requires : tie.Need-hex-digit-requires
 hex-digit-requires c κs = search rules
@@ -70,9 +70,9 @@ returns-3 c =
     let d = p.before.before.before in
     let s = d.before.before in
     let e = s.before.before in
-    let form = as-digits _ _ e.before.letter-of.ensures e.if1.false (sym s.before.is-between.ensures ∙ s.if2.false) in
+    let form = as_digits _ _ e.before.letter-of.ensures e.if1.false (sym s.before.is-between.ensures ∙ s.if2.false) in
     rw (form, sym d.before.hex-digit.ensures, sym d.hex-digit2.ensures)
-    (puts-copied _ _ _ _ (omega arith) p.copy-into2.ensures.1)
+    (puts_copied _ _ _ _ (omega arith) p.copy-into2.ensures.1)
 
 pub put-byte-spec : {M : Type 1} → statement M
 put-byte-spec =

@@ -2,9 +2,9 @@
 use mathlib.Core.Path.{◌≡◌, sym, ◌∙◌}
 use native.Mathlib.Omega.{arith}
 use lib.ListN.{length, length-set}
-use Rattle.lines.proofs.Putting.{puts-copied}
-use Rattle.item_writer.proofs.Written.{item-bare, quoted-most}
-use Rattle.item_writer.proofs.Items.{puts-quotes}
+use Rattle.lines.proofs.Putting.{puts_copied}
+use Rattle.item_writer.proofs.Written.{item_bare, quoted_most}
+use Rattle.item_writer.proofs.Items.{puts_quotes}
 use borrow.Author.Rules.{rules}
 use Rattle.item_writer.proofs.writer.put_item.Statement.{statement}
 use Rattle.item_writer.proofs.writer.put_item.Tie as tie
@@ -25,7 +25,7 @@ returns : tie.Need-returns
 returns c =
     let p = c.before.before in
     let t = p.before.before in
-    rw (item-bare _ (sym t.before.is-bare.ensures ∙ t.if1.true)) (puts-copied _ _ _ _ (omega arith) p.copy-into.ensures.1)
+    rw (item_bare _ (sym t.before.is-bare.ensures ∙ t.if1.true)) (puts_copied _ _ _ _ (omega arith) p.copy-into.ensures.1)
 
 slice-write-text : tie.Need-slice-write-text
 slice-write-text c = search rules
@@ -45,12 +45,12 @@ as_long c = c.before.before.put-quoted.auto.1.0 ∙ simp length-set
 slice-write-text-2 : tie.Need-slice-write-text-2
 slice-write-text-2 c =
     let q = c.before.before.put-quoted in
-    omega (arith, as_long c, q.ensures.behind, quoted-most c.before.before.before.before.before.before.before.before.args.item.now)
+    omega (arith, as_long c, q.ensures.behind, quoted_most c.before.before.before.before.before.before.before.before.args.item.now)
 
 add-result-2 : tie.Need-overflow-add-result-2
 add-result-2 c =
     let q = c.before.before.put-quoted in
-    omega (arith, q.ensures.behind, quoted-most c.before.before.before.before.before.before.before.before.args.item.now)
+    omega (arith, q.ensures.behind, quoted_most c.before.before.before.before.before.before.before.before.args.item.now)
 
 same-length-2 : tie.Need-same-length-2
 same-length-2 c = simp length-set (as_long c)
@@ -60,7 +60,7 @@ returns-2 c =
     let q = c.before.before in
     let e = q.before.before in
     let quoted = sym e.before.is-bare.ensures ∙ e.if1.false in
-    puts-quotes _ _ _ _ _ quoted e.before.before.before.before.requires q.put-quoted.ensures (as_long c)
+    puts_quotes _ _ _ _ _ quoted e.before.before.before.before.requires q.put-quoted.ensures (as_long c)
 
 pub put-item-spec : {M : Type 1} → statement M
 put-item-spec =

@@ -3,7 +3,7 @@ use Prim.Native.Nat.{◌-◌}
 use native.Mathlib.Omega.{arith}
 use lib.ListN.{length, get_or}
 use borrow.Author.Rules.{rules}
-use Rattle.item_writer.proofs.Lists.{Listed, NextItem, listed_start, next-item, listed_more, listed-done}
+use Rattle.item_writer.proofs.Lists.{Listed, NextItem, listed_start, next_item, listed_more, listed_done}
 use Rattle.item_writer.proofs.writer.put_list.Statement.{statement}
 use Rattle.item_writer.proofs.writer.put_list.Tie as tie
 
@@ -28,7 +28,7 @@ next : (c : tie.After-shared-slice-known3 invariant-loop decreases-loop)
     NextItem a.bytes.now l.loop.text l.loop.at l.loop.start (get_or a.ends.now l.loop.i 0)
 next c =
     let l = c.before.before in
-    next-item _ _ _ _ _ _ _ l.loop.invariant (omega arith) l.before.before.before.before.requires.1
+    next_item _ _ _ _ _ _ _ l.loop.invariant (omega arith) l.before.before.before.before.requires.1
 
 sub-put-next : tie.Need-overflow-sub-put-next invariant-loop decreases-loop
 sub-put-next c = (next c).above
@@ -59,7 +59,7 @@ same_length : tie.Need-same-length invariant-loop decreases-loop
 same_length c = c.before.loop.invariant.same
 
 returns : tie.Need-returns invariant-loop decreases-loop
-returns c = listed-done _ _ _ _ _ _ _ c.before.loop.invariant c.loop-test.false
+returns c = listed_done _ _ _ _ _ _ _ c.before.loop.invariant c.loop-test.false
 
 pub put-list-spec : {M : Type 1} → statement M
 put-list-spec =

@@ -2,8 +2,8 @@
 use mathlib.Core.Path.{◌∙◌}
 use native.Mathlib.Omega.{arith}
 use lib.ListN.{length-set}
-use Rattle.item_writer.proofs.Written.{following-first}
-use Rattle.item_writer.proofs.Items.{puts-behind}
+use Rattle.item_writer.proofs.Written.{following_first}
+use Rattle.item_writer.proofs.Items.{puts_behind}
 use borrow.Author.Rules.{rules}
 use Rattle.item_writer.proofs.writer.put_next.Statement.{statement}
 use Rattle.item_writer.proofs.writer.put_next.Tie as tie
@@ -17,7 +17,7 @@ same_length c = search rules
 returns : tie.Need-returns
 returns c =
     let p = c.before.before in
-    rw (following-first _ _ p.before.before.if1.true) p.put_item.ensures
+    rw (following_first _ _ p.before.before.if1.true) p.put_item.ensures
 
 slice-write-text : tie.Need-slice-write-text
 slice-write-text c = search rules
@@ -34,7 +34,7 @@ same-length-2 c = c.before.before.put-item2.auto.1.0 ∙ simp length-set
 returns-2 : tie.Need-returns-2
 returns-2 c =
     let p = c.before.before in
-    puts-behind _ _ _ _ _ _ p.before.before.if1.false (omega arith) p.put-item2.ensures
+    puts_behind _ _ _ _ _ _ p.before.before.if1.false (omega arith) p.put-item2.ensures
 
 pub put-next-spec : {M : Type 1} → statement M
 put-next-spec =

@@ -4,7 +4,7 @@ use native.Mathlib.Omega.{arith}
 use Rattle.lines.specs.Bytes.{Bytes}
 use Rattle.lines.specs.Answers.{accepted}
 use Rattle.items.specs.Escapes.{numeric}
-use Rattle.items.proofs.EscapeSteps.{byte-zero, byte_above, byte-given}
+use Rattle.items.proofs.EscapeSteps.{byte_zero, byte_above, byte_given}
 use borrow.Author.Rules.{rules}
 use Rattle.items.proofs.escapes.byte_escape.Statement.{statement}
 use Rattle.items.proofs.escapes.byte_escape.Tie as tie
@@ -20,7 +20,7 @@ unfolding numeric
 returns c = record { means = rw c.enum_told.given.1; short = tt }
 
 returns-2 : tie.Need-returns-2
-returns-2 c = record { means = rw c.before.before.n.given.1 (byte-zero _ _ _ c.if1.true); short = tt }
+returns-2 c = record { means = rw c.before.before.n.given.1 (byte_zero _ _ _ c.if1.true); short = tt }
 
 returns-3 : tie.Need-returns-3
 returns-3 c = record { means = rw c.before.before.before.n.given.1 (byte_above _ _ _ c.before.if1.false c.if2.true); short = tt }
@@ -34,7 +34,7 @@ one-requires c κs = search rules
 returns-4 : tie.Need-returns-4
 returns-4 c = let n = c.before.before.before.before in
     record {
-      means = rw n.n.given.1 (ap (λ (bs : Bytes). accepted (record { bytes = bs; taken = n.before.before.args.taken })) c.one.ensures.0 ∙ byte-given _ _ _ c.before.before.if1.false c.before.if2.false);
+      means = rw n.n.given.1 (ap (λ (bs : Bytes). accepted (record { bytes = bs; taken = n.before.before.args.taken })) c.one.ensures.0 ∙ byte_given _ _ _ c.before.before.if1.false c.before.if2.false);
       short = omega arith;
     }
 

@@ -3,9 +3,9 @@ use mathlib.Core.Path.{◌∙◌, ap}
 use Prim.Native.Nat.{ℕ}
 use lib.ListN.{drop}
 use lib.Seq.{drop-cons}
-use Rattle.lines.proofs.Slices.{part-from}
+use Rattle.lines.proofs.Slices.{part_from}
 use Rattle.items.specs.Escapes.{number}
-use Rattle.items.proofs.EscapeSteps.{escape-same, by-x, by-u, by-U, by-octal}
+use Rattle.items.proofs.EscapeSteps.{escape_same, by_x, by_u, by_U, by_octal}
 use borrow.Author.Rules.{rules}
 use Rattle.items.proofs.escapes.digit_escape.Statement.{statement}
 use Rattle.items.proofs.escapes.digit_escape.Tie as tie
@@ -32,7 +32,7 @@ returns : tie.Need-returns
 returns c = let n = c.before in
     let e = n.before in
     let t = e.before.before.before.before.args.text.now in
-    escape-same _ _ _ (by-x _ (drop 1 t) _ _ e.if1.true (n.read_number.ensures ∙ ap (number 16 2) (part-from 1 t))) c.byte-escape.ensures
+    escape_same _ _ _ (by_x _ (drop 1 t) _ _ e.if1.true (n.read_number.ensures ∙ ap (number 16 2) (part_from 1 t))) c.byte-escape.ensures
 
 read-number-requires-2 : tie.Need-read-number-requires-2
 read-number-requires-2 c κs = search rules
@@ -44,7 +44,7 @@ returns-2 : tie.Need-returns-2
 returns-2 c = let n = c.before in
     let e = n.before in
     let t = e.before.before.before.before.before.args.text.now in
-    escape-same _ _ _ (by-u _ (drop 1 t) _ _ e.before.if1.false e.if2.true (n.read-number2.ensures ∙ ap (number 16 4) (part-from 1 t))) c.point-escape.ensures
+    escape_same _ _ _ (by_u _ (drop 1 t) _ _ e.before.if1.false e.if2.true (n.read-number2.ensures ∙ ap (number 16 4) (part_from 1 t))) c.point-escape.ensures
 
 read-number-requires-3 : tie.Need-read-number-requires-3
 read-number-requires-3 c κs = search rules
@@ -56,7 +56,7 @@ returns-3 : tie.Need-returns-3
 returns-3 c = let n = c.before in
     let e = n.before in
     let t = e.before.before.before.before.before.before.args.text.now in
-    escape-same _ _ _ (by-U _ (drop 1 t) _ _ e.before.before.if1.false e.before.if2.false e.if3.true (n.read-number3.ensures ∙ ap (number 16 8) (part-from 1 t))) c.point-escape2.ensures
+    escape_same _ _ _ (by_U _ (drop 1 t) _ _ e.before.before.if1.false e.before.if2.false e.if3.true (n.read-number3.ensures ∙ ap (number 16 8) (part_from 1 t))) c.point-escape2.ensures
 
 read-number-requires-4 : tie.Need-read-number-requires-4
 read-number-requires-4 c κs = search rules
@@ -69,7 +69,7 @@ returns-4 c = let n = c.before in
     let e = n.before in
     let s = e.before.before.before.before.before.before in
     let t = s.args.text.now in
-    escape-same _ _ _ (by-octal _ (drop 1 t) _ _ e.before.before.if1.false e.before.if2.false e.if3.false (n.read-number4.ensures ∙ ap (number 8 3) (drop-cons {A = ℕ} t 0 0 s.requires))) c.byte-escape2.ensures
+    escape_same _ _ _ (by_octal _ (drop 1 t) _ _ e.before.before.if1.false e.before.if2.false e.if3.false (n.read-number4.ensures ∙ ap (number 8 3) (drop-cons {A = ℕ} t 0 0 s.requires))) c.byte-escape2.ensures
 
 pub digit-escape-spec : {M : Type 1} → statement M
 digit-escape-spec =

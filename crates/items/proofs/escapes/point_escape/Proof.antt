@@ -3,7 +3,7 @@ use mathlib.Core.Path.{sym, ap, ◌∙◌}
 use Rattle.lines.specs.Bytes.{Bytes}
 use Rattle.lines.specs.Answers.{accepted}
 use Rattle.items.specs.Escapes.{numeric}
-use Rattle.items.proofs.EscapeSteps.{point-below}
+use Rattle.items.proofs.EscapeSteps.{point_below}
 use borrow.Author.Rules.{rules}
 use Rattle.items.proofs.escapes.point_escape.Statement.{statement}
 use Rattle.items.proofs.escapes.point_escape.Tie as tie
@@ -22,7 +22,7 @@ is-code-point-requires : tie.Need-is-code-point-requires
 is-code-point-requires c κs = search rules
 
 encode-requires : tie.Need-encode-requires
-encode-requires c κs = point-below _ (sym c.before.is-code-point.ensures ∙ c.if1.true)
+encode-requires c κs = point_below _ (sym c.before.is-code-point.ensures ∙ c.if1.true)
 
 returns-2 : tie.Need-returns-2
 unfolding numeric

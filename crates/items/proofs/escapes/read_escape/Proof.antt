@@ -4,8 +4,8 @@ use Prim.Native.Nat.{◌+◌}
 use native.Mathlib.Omega.{arith}
 use Rattle.lines.specs.Bytes.{Bytes}
 use Rattle.lines.specs.Answers.{accepted}
-use Rattle.lines.proofs.Slices.{part-from}
-use Rattle.items.proofs.EscapeSteps.{no-escape, by-letter, by_digits, escape-same}
+use Rattle.lines.proofs.Slices.{part_from}
+use Rattle.items.proofs.EscapeSteps.{no_escape, by_letter, by_digits, escape_same}
 use borrow.Author.Rules.{rules}
 use Rattle.items.proofs.escapes.read_escape.Statement.{statement}
 use Rattle.items.proofs.escapes.read_escape.Tie as tie
@@ -14,7 +14,7 @@ add-behind : tie.Need-overflow-add-behind
 add-behind c = search rules
 
 returns : tie.Need-returns
-returns c = record { means = sym (no-escape _ _ c.if1.true); short = tt }
+returns c = record { means = sym (no_escape _ _ c.if1.true); short = tt }
 
 shared-slice-read-letter-byte : tie.Need-shared-slice-read-letter-byte
 shared-slice-read-letter-byte c = search rules
@@ -28,7 +28,7 @@ one-requires c κs = search rules
 returns-2 : tie.Need-returns-2
 returns-2 c = let l = c.before.before in
     record {
-      means = ap (λ (bs : Bytes). accepted (record { bytes = bs; taken = 1 })) c.one.ensures.0 ∙ sym (by-letter _ _ l.before.before.if1.false _ l.letter-byte.ensures c.before.if2.true);
+      means = ap (λ (bs : Bytes). accepted (record { bytes = bs; taken = 1 })) c.one.ensures.0 ∙ sym (by_letter _ _ l.before.before.if1.false _ l.letter-byte.ensures c.before.if2.true);
       short = omega arith;
     }
 
@@ -47,7 +47,7 @@ digit-escape-requires c κs = search rules
 returns-3 : tie.Need-returns-3
 returns-3 c = let l = c.before.before.before in
     let s = l.before.before.before.before in
-    escape-same _ _ _ (by_digits _ _ l.before.before.if1.false _ l.letter-byte.ensures c.before.before.if2.false _ (part-from (s.args.at + 1) s.args.text.now)) c.digit-escape.ensures
+    escape_same _ _ _ (by_digits _ _ l.before.before.if1.false _ l.letter-byte.ensures c.before.before.if2.false _ (part_from (s.args.at + 1) s.args.text.now)) c.digit-escape.ensures
 
 pub read-escape-spec : {M : Type 1} → statement M
 read-escape-spec =

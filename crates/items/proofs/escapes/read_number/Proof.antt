@@ -1,7 +1,7 @@
 -- `read_number`: the digits read so far have the number `value`.
 use Prim.Native.Nat.{◌-◌}
 use native.Mathlib.Omega.{arith}
-use Rattle.items.proofs.Digits.{DigitsRead, too_short, digits-start, no_digit, digit-fits, one-digit, all_digits}
+use Rattle.items.proofs.Digits.{DigitsRead, too_short, digits_start, no_digit, digit-fits, one_digit, all_digits}
 use borrow.Author.Rules.{rules}
 use Rattle.items.proofs.escapes.read_number.Statement.{statement}
 use Rattle.items.proofs.escapes.read_number.Tie as tie
@@ -16,7 +16,7 @@ returns : tie.Need-returns invariant-loop decreases-loop
 returns c = too_short _ _ _ c.if1.true
 
 loop-holds : tie.Need-loop-init invariant-loop decreases-loop
-loop-holds c = digits-start _ _ _ c.if1.false
+loop-holds c = digits_start _ _ _ c.if1.false
 
 shared-slice-read-digit-value : tie.Need-shared-slice-read-digit-value invariant-loop decreases-loop
 shared-slice-read-digit-value c = search rules
@@ -50,7 +50,7 @@ loop-less c = search rules
 loop-again : tie.Need-loop-preserved invariant-loop decreases-loop
 loop-again c = let d = c.before in
     let l = d.before.before.before in
-    one-digit _ _ _ _ _ _ l.loop.invariant d.before.before.loop-test.true d.digit_value.ensures c.if2.false l.before.before.before.requires.0
+    one_digit _ _ _ _ _ _ l.loop.invariant d.before.before.loop-test.true d.digit_value.ensures c.if2.false l.before.before.before.requires.0
 
 returns-3 : tie.Need-returns-3 invariant-loop decreases-loop
 returns-3 c = all_digits _ _ _ _ _ c.before.loop.invariant c.loop-test.false

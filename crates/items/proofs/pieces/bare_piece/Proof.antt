@@ -2,7 +2,7 @@
 use mathlib.Core.Path.{sym, ◌∙◌}
 use borrow.Author.Tests.{eq-eqb, ne_eqb}
 use Rattle.items.specs.declared.pieces.Mode.TheVariants.{Bare}
-use Rattle.items.proofs.PieceSteps.{bare-blank, bare-quote, bare-byte}
+use Rattle.items.proofs.PieceSteps.{bare_blank, bare_quote, bare_byte_lem}
 use borrow.Author.Rules.{rules}
 use Rattle.items.proofs.pieces.bare_piece.Statement.{statement}
 use Rattle.items.proofs.pieces.bare_piece.Tie as tie
@@ -15,14 +15,14 @@ is-blank-requires c κs = search rules
 
 returns : tie.Need-returns
 returns c = let b = c.before in
-    bare-blank _ _ b.before.before.before.requires (sym b.is-blank.ensures ∙ c.if1.true)
+    bare_blank _ _ b.before.before.before.requires (sym b.is-blank.ensures ∙ c.if1.true)
 
 is-quote-requires : tie.Need-is-quote-requires
 is-quote-requires c κs = search rules
 
 returns-2 : tie.Need-returns-2
 returns-2 c = let b = c.before.before.before in
-    bare-quote _ _ b.before.before.before.requires (sym b.is-blank.ensures ∙ c.before.before.if1.false) (sym c.before.is-quote.ensures ∙ c.if2.true)
+    bare_quote _ _ b.before.before.before.requires (sym b.is-blank.ensures ∙ c.before.before.if1.false) (sym c.before.is-quote.ensures ∙ c.if2.true)
 
 escape-piece-requires : tie.Need-escape-piece-requires
 escape-piece-requires c κs = (c.before.before.before.before.before.before.before.requires, eq-eqb _ _ c.if3.true)
@@ -39,7 +39,7 @@ add-t11 c = search rules
 returns-4 : tie.Need-returns-4
 returns-4 c = let e = c.before in
     let b = e.before.before.before.before in
-    bare-byte _ _ b.before.before.before.requires (ne_eqb _ _ e.if3.false) _ c.one.ensures.0 c.one.ensures.1 (sym b.is-blank.ensures ∙ e.before.before.before.if1.false) (sym e.before.before.is-quote.ensures ∙ e.before.if2.false)
+    bare_byte_lem _ _ b.before.before.before.requires (ne_eqb _ _ e.if3.false) _ c.one.ensures.0 c.one.ensures.1 (sym b.is-blank.ensures ∙ e.before.before.before.if1.false) (sym e.before.before.is-quote.ensures ∙ e.before.if2.false)
 
 pub bare-piece-spec : {M : Type 1} → statement M
 bare-piece-spec =

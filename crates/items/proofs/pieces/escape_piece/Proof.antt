@@ -1,7 +1,7 @@
 -- `escape_piece`: the escape taken apart, its bytes or its refusal.
 use native.Mathlib.Omega.{arith}
-use Rattle.items.proofs.EscapeSteps.{bytes-answer, refused-answer}
-use Rattle.items.proofs.PieceSteps.{escape-inside, escape-bytes, escape-wrong}
+use Rattle.items.proofs.EscapeSteps.{bytes_answer, refused_answer}
+use Rattle.items.proofs.PieceSteps.{escape-inside, escape-bytes, escape_wrong}
 use borrow.Author.Rules.{rules}
 use Rattle.items.proofs.pieces.escape_piece.Statement.{statement}
 use Rattle.items.proofs.pieces.escape_piece.Tie as tie
@@ -21,7 +21,7 @@ escape-error-requires c κs = search rules
 returns : tie.Need-returns
 returns c = let r = c.before.before.before in
     let s = r.before.before in
-    escape-wrong _ _ s.requires.0 s.requires.1 _ _ (refused-answer _ _ _ _ r.read-escape.ensures c.before.enum_told.given.1 c.escape-error.ensures)
+    escape_wrong _ _ s.requires.0 s.requires.1 _ _ (refused_answer _ _ _ _ r.read-escape.ensures c.before.enum_told.given.1 c.escape-error.ensures)
 
 add-t7 : tie.Need-overflow-add-t7
 add-t7 c = search rules
@@ -30,13 +30,13 @@ add-t8 : tie.Need-overflow-add-t8
 add-t8 c = let r = c.before.before.before in
     let s = r.before.before in
     let e = c.before.e.given in
-    let b = bytes-answer _ _ _ _ r.read-escape.ensures e.1 in
+    let b = bytes_answer _ _ _ _ r.read-escape.ensures e.1 in
     record { fits = omega (arith, escape-inside s.args.text.now s.args.at s.requires.0 s.requires.1 e.0.0 e.0.1.0 b.0) }
 
 returns-2 : tie.Need-returns-2
 returns-2 c = let r = c.before.before.before in
     let s = r.before.before in
-    let b = bytes-answer _ _ _ _ r.read-escape.ensures c.before.e.given.1 in
+    let b = bytes_answer _ _ _ _ r.read-escape.ensures c.before.e.given.1 in
     escape-bytes _ _ s.requires.0 s.requires.1 _ _ b.0 b.1
 
 pub escape-piece-spec : {M : Type 1} → statement M

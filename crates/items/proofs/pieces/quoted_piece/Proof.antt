@@ -1,7 +1,7 @@
 -- `quoted_piece`: by the byte that stands there.
 use borrow.Author.Tests.{eq-eqb, ne_eqb}
 use Rattle.items.specs.declared.pieces.Mode.TheVariants.{Quoted}
-use Rattle.items.proofs.PieceSteps.{quoted-closed, quoted-byte}
+use Rattle.items.proofs.PieceSteps.{quoted_closed, quoted_byte}
 use borrow.Author.Rules.{rules}
 use Rattle.items.proofs.pieces.quoted_piece.Statement.{statement}
 use Rattle.items.proofs.pieces.quoted_piece.Tie as tie
@@ -24,7 +24,7 @@ closed-piece-requires c κs = search rules
 returns-2 : tie.Need-returns-2
 returns-2 c = let e = c.before.before in
     let s = e.before.before.before in
-    quoted-closed s.args.text.now s.args.at s.args.kind s.args.opening s.requires (ne_eqb _ _ e.if1.false) c.before.if2.true c.closed-piece.result c.closed-piece.ensures
+    quoted_closed s.args.text.now s.args.at s.args.kind s.args.opening s.requires (ne_eqb _ _ e.if1.false) c.before.if2.true c.closed-piece.result c.closed-piece.ensures
 
 one-requires : tie.Need-one-requires
 one-requires c κs = search rules
@@ -34,7 +34,7 @@ add-t11 c = search rules
 
 returns-3 : tie.Need-returns-3
 returns-3 c = let e = c.before.before in
-    quoted-byte _ _ e.before.before.before.requires (ne_eqb _ _ e.if1.false) _ c.one.ensures.0 c.one.ensures.1 _ _ c.before.if2.false
+    quoted_byte _ _ e.before.before.before.requires (ne_eqb _ _ e.if1.false) _ c.one.ensures.0 c.one.ensures.1 _ _ c.before.if2.false
 
 pub quoted-piece-spec : {M : Type 1} → statement M
 quoted-piece-spec =

@@ -1,7 +1,7 @@
 -- `next_item`: by what stands behind the blanks.
 use mathlib.Core.Path.{refl, sym, ◌∙◌}
 use native.Mathlib.Omega.{arith}
-use Rattle.items.proofs.StepCases.{step_end, step-many, step-quoted, step-bare, same_step}
+use Rattle.items.proofs.StepCases.{step_end, step_many, step_quoted, step_bare, same_step}
 use borrow.Author.Rules.{rules}
 use Rattle.items.proofs.splitter.next_item.Statement.{statement}
 use Rattle.items.proofs.splitter.next_item.Tie as tie
@@ -19,7 +19,7 @@ returns-2 : tie.Need-returns-2
 returns-2 c = let a = c.before.before in
     let s = a.before.before.before in
     let p = a.past-blanks.ensures in
-    step-many s.args.text.now s.args.more s.args.start _ p (omega arith) c.if2.true
+    step_many s.args.text.now s.args.more s.args.start _ p (omega arith) c.if2.true
 
 shared-slice-read-first : tie.Need-shared-slice-read-first
 shared-slice-read-first c = search rules
@@ -40,7 +40,7 @@ returns-3 : tie.Need-returns-3
 returns-3 c = let a = c.before.before.before.before.before.before.before.before.before in
     let s = a.before.before.before in
     let p = a.past-blanks.ensures in
-    same_step s.args.text.now _ _ s.args.used _ c.before.before.read-item.new.1.1.1.0 c.before.before.read-item.result (step-quoted s.args.text.now s.args.more s.args.start _ p (omega arith) c.before.before.before.before.before.before.before.if2.false (sym c.before.before.before.before.before.is-quote.ensures ∙ c.before.before.before.before.if3.true)) c.before.before.read-item.ensures
+    same_step s.args.text.now _ _ s.args.used _ c.before.before.read-item.new.1.1.1.0 c.before.before.read-item.result (step_quoted s.args.text.now s.args.more s.args.start _ p (omega arith) c.before.before.before.before.before.before.before.if2.false (sym c.before.before.before.before.before.is-quote.ensures ∙ c.before.before.before.before.if3.true)) c.before.before.read-item.ensures
 
 read-item-requires-2 : tie.Need-read-item-requires-2
 read-item-requires-2 c κs = search rules
@@ -52,7 +52,7 @@ returns-4 : tie.Need-returns-4
 returns-4 c = let a = c.before.before.before.before.before.before.before.before.before in
     let s = a.before.before.before in
     let p = a.past-blanks.ensures in
-    same_step s.args.text.now _ _ s.args.used _ c.before.before.read-item2.new.1.1.1.0 c.before.before.read-item2.result (step-bare s.args.text.now s.args.more s.args.start _ p (omega arith) c.before.before.before.before.before.before.before.if2.false (sym c.before.before.before.before.before.is-quote.ensures ∙ c.before.before.before.before.if3.false)) c.before.before.read-item2.ensures
+    same_step s.args.text.now _ _ s.args.used _ c.before.before.read-item2.new.1.1.1.0 c.before.before.read-item2.result (step_bare s.args.text.now s.args.more s.args.start _ p (omega arith) c.before.before.before.before.before.before.before.if2.false (sym c.before.before.before.before.before.is-quote.ensures ∙ c.before.before.before.before.if3.false)) c.before.before.read-item2.ensures
 
 pub next-item-spec : {M : Type 1} → statement M
 next-item-spec =

@@ -3,14 +3,14 @@ use mathlib.Core.Path.{◌≡◌, refl, sym, ◌∙◌}
 use Prim.Native.Nat.{◌-◌, ◌≤◌}
 use native.Mathlib.Omega.{arith}
 use lib.ListN.{length}
-use Rattle.items.specs.Split.{pastBlanks}
-use Rattle.items.specs.Steps.{piecesAt}
-use Rattle.items.proofs.PieceSteps.{blank-passed}
+use Rattle.items.specs.Split.{past_blanks}
+use Rattle.items.specs.Steps.{pieces_at}
+use Rattle.items.proofs.PieceSteps.{blank_passed}
 use Rattle.items.proofs.splitter.past_blanks.Statement.{statement}
 use Rattle.items.proofs.splitter.past_blanks.Tie as tie
 
 abbrev invariant-loop : tie.invariant-loop
-invariant-loop text start at₀ at = (start ≤ at) × (at ≤ length text) × (pastBlanks (piecesAt text start) ≡ pastBlanks (piecesAt text at))
+invariant-loop text start at₀ at = (start ≤ at) × (at ≤ length text) × (past_blanks (pieces_at text start) ≡ past_blanks (pieces_at text at))
 
 abbrev decreases-loop : tie.decreases-loop
 decreases-loop text start at₀ at = length text - at
@@ -32,7 +32,7 @@ loop-less c = omega arith
 
 loop-again : tie.Need-loop-preserved invariant-loop decreases-loop
 loop-again c = let l = c.before.before.before.before in
-    (omega arith, omega arith, l.loop.invariant.2 ∙ blank-passed _ _ (omega arith) (sym c.before.is-blank.ensures ∙ c.if1.true))
+    (omega arith, omega arith, l.loop.invariant.2 ∙ blank_passed _ _ (omega arith) (sym c.before.is-blank.ensures ∙ c.if1.true))
 
 returns : tie.Need-returns invariant-loop decreases-loop
 returns c = let l = c.before.before.before.before in

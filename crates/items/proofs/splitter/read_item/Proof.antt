@@ -2,7 +2,7 @@
 use Prim.Native.Nat.{◌-◌}
 use native.Mathlib.Omega.{arith}
 use lib.ListN.{length}
-use Rattle.items.proofs.ItemLoop.{Reading, reading-start, reading-more, reading-ended, reading-refused, piece-known}
+use Rattle.items.proofs.ItemLoop.{Reading, reading_start, reading_more, reading_ended, reading_refused, piece_known}
 use borrow.Author.Rules.{rules}
 use Rattle.items.proofs.splitter.read_item.Statement.{statement}
 use Rattle.items.proofs.splitter.read_item.Tie as tie
@@ -15,7 +15,7 @@ decreases-loop text mode start buffer₀ filled at₀ size₀ buffer at size = l
 
 loop-holds : tie.Need-loop-init invariant-loop decreases-loop
 loop-holds c = let s = c.before.before in
-    reading-start _ _ _ _ _ s.requires.1 s.requires.2
+    reading_start _ _ _ _ _ s.requires.1 s.requires.2
 
 piece-at-requires : tie.Need-piece-at-requires invariant-loop decreases-loop
 piece-at-requires c κs = search rules
@@ -28,7 +28,7 @@ store-requires c κs = let a = c.before.before in
     let l = a.before.before.before in
     let s = l.before.before.before in
     let t = s.args.text.now in
-    let p = piece-known s.args.mode t l.loop.at _ _ a.bytes.given.1 a.before.before.piece-at.ensures in
+    let p = piece_known s.args.mode t l.loop.at _ _ a.bytes.given.1 a.before.before.piece-at.ensures in
     (p.short, omega (arith, p.fits, p.inside, l.loop.invariant.fits, l.loop.invariant.same, s.requires.0))
 
 add-size : tie.Need-overflow-add-size invariant-loop decreases-loop
@@ -36,7 +36,7 @@ add-size c = let a = c.before.before.before.before.before.before in
     let l = a.before.before.before in
     let s = l.before.before.before in
     let t = s.args.text.now in
-    let p = piece-known s.args.mode t l.loop.at _ _ a.bytes.given.1 a.before.before.piece-at.ensures in
+    let p = piece_known s.args.mode t l.loop.at _ _ a.bytes.given.1 a.before.before.piece-at.ensures in
     record { fits = omega (arith, p.fits, p.inside, l.loop.invariant.fits) }
 
 loop-less : tie.Need-loop-smaller invariant-loop decreases-loop
@@ -44,7 +44,7 @@ loop-less c = let a = c.before.before.before.before.before.before in
     let l = a.before.before.before in
     let s = l.before.before.before in
     let t = s.args.text.now in
-    let p = piece-known s.args.mode t l.loop.at _ _ a.bytes.given.1 a.before.before.piece-at.ensures in
+    let p = piece_known s.args.mode t l.loop.at _ _ a.bytes.given.1 a.before.before.piece-at.ensures in
     omega (arith, p.later, p.inside)
 
 loop-again : tie.Need-loop-preserved invariant-loop decreases-loop
@@ -52,8 +52,8 @@ loop-again c = let a = c.before.before.before.before.before.before in
     let l = a.before.before.before in
     let s = l.before.before.before in
     let t = s.args.text.now in
-    let p = piece-known s.args.mode t l.loop.at _ _ a.bytes.given.1 a.before.before.piece-at.ensures in
-    reading-more _ _ _ _ _ _ _ _ l.loop.invariant _ _ p c.before.before.before.store.new.0 c.before.before.before.store.ensures (search rules) (omega arith)
+    let p = piece_known s.args.mode t l.loop.at _ _ a.bytes.given.1 a.before.before.piece-at.ensures in
+    reading_more _ _ _ _ _ _ _ _ l.loop.invariant _ _ p c.before.before.before.store.new.0 c.before.before.before.store.ensures (search rules) (omega arith)
 
 enum-known-next : tie.Need-enum-known-next invariant-loop decreases-loop
 enum-known-next c = search rules
@@ -66,8 +66,8 @@ returns c = let a = c.before in
     let l = a.before.before.before in
     let s = l.before.before.before in
     let t = s.args.text.now in
-    let p = piece-known s.args.mode t l.loop.at _ _ a.next.given.1 a.before.before.piece-at.ensures in
-    reading-ended _ _ _ _ _ _ _ _ l.loop.invariant _ p
+    let p = piece_known s.args.mode t l.loop.at _ _ a.next.given.1 a.before.before.piece-at.ensures in
+    reading_ended _ _ _ _ _ _ _ _ l.loop.invariant _ p
 
 enum-known-e : tie.Need-enum-known-e invariant-loop decreases-loop
 enum-known-e c = search rules
@@ -80,8 +80,8 @@ returns-2 c = let a = c.before in
     let l = a.before.before.before in
     let s = l.before.before.before in
     let t = s.args.text.now in
-    let p = piece-known s.args.mode t l.loop.at _ _ a.e.given.1 a.before.before.piece-at.ensures in
-    reading-refused _ _ _ _ _ _ _ _ l.loop.invariant _ _ p
+    let p = piece_known s.args.mode t l.loop.at _ _ a.e.given.1 a.before.before.piece-at.ensures in
+    reading_refused _ _ _ _ _ _ _ _ l.loop.invariant _ _ p
 
 pub read-item-spec : {M : Type 1} → statement M
 read-item-spec =

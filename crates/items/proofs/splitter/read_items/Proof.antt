@@ -1,8 +1,8 @@
 -- `read_items`: the loop keeps `Collecting`; its items are those of `next_item`.
 use Prim.Native.Nat.{◌-◌}
 use native.Mathlib.Omega.{arith}
-use Rattle.items.proofs.StepCases.{step-known}
-use Rattle.items.proofs.SplitLoop.{Collecting, collecting-start, collecting-end, collecting-refused, place-left, collecting-more}
+use Rattle.items.proofs.StepCases.{step_known}
+use Rattle.items.proofs.SplitLoop.{Collecting, collecting_start, collecting_end, collecting_refused, place_left, collecting_more}
 use borrow.Author.Rules.{rules}
 use Rattle.items.proofs.splitter.read_items.Statement.{statement}
 use Rattle.items.proofs.splitter.read_items.Tie as tie
@@ -14,7 +14,7 @@ abbrev decreases-loop : tie.decreases-loop
 decreases-loop text bytes₀ ends₀ at₀ length₀ count₀ bytes ends at length count = 257 - count
 
 loop-holds : tie.Need-loop-init invariant-loop decreases-loop
-loop-holds c = collecting-start _ _ _
+loop-holds c = collecting_start _ _ _
 
 sub-next-item : tie.Need-overflow-sub-next-item invariant-loop decreases-loop
 sub-next-item c = c.loop.invariant.few
@@ -30,45 +30,45 @@ mul-ends c = let a = c.before in
     let n = a.before.before.before.before in
     let l = n.before.before in
     let s = l.before.before.before.before in
-    let b = n.next-item.new.1.1.1.0 in
-    let r = step-known s.args.text.now _ l.loop.length l.loop.bytes b _ _ a.next.given.1 n.next-item.ensures in
-    record { fits = omega (arith, place-left _ _ _ _ l.loop.ends _ _ _ l.loop.invariant _ _ _ r) }
+    let b = n.next_item.new.1.1.1.0 in
+    let r = step_known s.args.text.now _ l.loop.length l.loop.bytes b _ _ a.next.given.1 n.next_item.ensures in
+    record { fits = omega (arith, place_left _ _ _ _ l.loop.ends _ _ _ l.loop.invariant _ _ _ r) }
 
 slice-write-ends : tie.Need-slice-write-ends invariant-loop decreases-loop
 slice-write-ends c = let a = c.before in
     let n = a.before.before.before.before in
     let l = n.before.before in
     let s = l.before.before.before.before in
-    let b = n.next-item.new.1.1.1.0 in
-    let r = step-known s.args.text.now _ l.loop.length l.loop.bytes b _ _ a.next.given.1 n.next-item.ensures in
-    omega (arith, place-left _ _ _ _ l.loop.ends _ _ _ l.loop.invariant _ _ _ r, l.loop.invariant.same_ends, s.requires.2)
+    let b = n.next_item.new.1.1.1.0 in
+    let r = step_known s.args.text.now _ l.loop.length l.loop.bytes b _ _ a.next.given.1 n.next_item.ensures in
+    omega (arith, place_left _ _ _ _ l.loop.ends _ _ _ l.loop.invariant _ _ _ r, l.loop.invariant.same_ends, s.requires.2)
 
 add-count : tie.Need-overflow-add-count invariant-loop decreases-loop
 add-count c = let a = c.before in
     let n = a.before.before.before.before in
     let l = n.before.before in
     let s = l.before.before.before.before in
-    let b = n.next-item.new.1.1.1.0 in
-    let r = step-known s.args.text.now _ l.loop.length l.loop.bytes b _ _ a.next.given.1 n.next-item.ensures in
-    record { fits = omega (arith, place-left _ _ _ _ l.loop.ends _ _ _ l.loop.invariant _ _ _ r) }
+    let b = n.next_item.new.1.1.1.0 in
+    let r = step_known s.args.text.now _ l.loop.length l.loop.bytes b _ _ a.next.given.1 n.next_item.ensures in
+    record { fits = omega (arith, place_left _ _ _ _ l.loop.ends _ _ _ l.loop.invariant _ _ _ r) }
 
 loop-less : tie.Need-loop-smaller invariant-loop decreases-loop
 loop-less c = let a = c.before in
     let n = a.before.before.before.before in
     let l = n.before.before in
     let s = l.before.before.before.before in
-    let b = n.next-item.new.1.1.1.0 in
-    let r = step-known s.args.text.now _ l.loop.length l.loop.bytes b _ _ a.next.given.1 n.next-item.ensures in
-    omega (arith, place-left _ _ _ _ l.loop.ends _ _ _ l.loop.invariant _ _ _ r)
+    let b = n.next_item.new.1.1.1.0 in
+    let r = step_known s.args.text.now _ l.loop.length l.loop.bytes b _ _ a.next.given.1 n.next_item.ensures in
+    omega (arith, place_left _ _ _ _ l.loop.ends _ _ _ l.loop.invariant _ _ _ r)
 
 loop-again : tie.Need-loop-preserved invariant-loop decreases-loop
 loop-again c = let a = c.before in
     let n = a.before.before.before.before in
     let l = n.before.before in
     let s = l.before.before.before.before in
-    let b = n.next-item.new.1.1.1.0 in
-    let r = step-known s.args.text.now _ l.loop.length l.loop.bytes b _ _ a.next.given.1 n.next-item.ensures in
-    collecting-more _ _ _ _ l.loop.ends _ _ _ l.loop.invariant b _ _ r s.requires.2 (search rules)
+    let b = n.next_item.new.1.1.1.0 in
+    let r = step_known s.args.text.now _ l.loop.length l.loop.bytes b _ _ a.next.given.1 n.next_item.ensures in
+    collecting_more _ _ _ _ l.loop.ends _ _ _ l.loop.invariant b _ _ r s.requires.2 (search rules)
 
 enum_told : tie.Need-enum-told invariant-loop decreases-loop
 enum_told c = search rules
@@ -84,9 +84,9 @@ returns c = let a = c in
     let n = a.before.before.before.before in
     let l = n.before.before in
     let s = l.before.before.before.before in
-    let b = n.next-item.new.1.1.1.0 in
-    let r = step-known s.args.text.now _ l.loop.length l.loop.bytes b _ _ a.enum_told.given.1 n.next-item.ensures in
-    collecting-end _ _ _ _ _ _ _ _ l.loop.invariant s.requires.0 b r
+    let b = n.next_item.new.1.1.1.0 in
+    let r = step_known s.args.text.now _ l.loop.length l.loop.bytes b _ _ a.enum_told.given.1 n.next_item.ensures in
+    collecting_end _ _ _ _ _ _ _ _ l.loop.invariant s.requires.0 b r
 
 enum-known-e : tie.Need-enum-known-e invariant-loop decreases-loop
 enum-known-e c = search rules
@@ -102,9 +102,9 @@ returns-2 c = let a = c.before in
     let n = a.before.before.before.before in
     let l = n.before.before in
     let s = l.before.before.before.before in
-    let b = n.next-item.new.1.1.1.0 in
-    let r = step-known s.args.text.now _ l.loop.length l.loop.bytes b _ _ a.e.given.1 n.next-item.ensures in
-    collecting-refused _ _ _ _ _ _ _ _ l.loop.invariant _ _ r
+    let b = n.next_item.new.1.1.1.0 in
+    let r = step_known s.args.text.now _ l.loop.length l.loop.bytes b _ _ a.e.given.1 n.next_item.ensures in
+    collecting_refused _ _ _ _ _ _ _ _ l.loop.invariant _ _ r
 
 pub read-items-spec : {M : Type 1} → statement M
 read-items-spec =

@@ -2,7 +2,7 @@
 use mathlib.Core.Path.{◌≡◌}
 use native.Mathlib.Omega.{arith}
 use lib.ListN.{length}
-use Rattle.items.proofs.SplitCalls.{all_known, apart-refused, apart-copied}
+use Rattle.items.proofs.SplitCalls.{all_known, apart_refused, apart_copied}
 use borrow.Author.Rules.{rules}
 use Rattle.items.proofs.splitter.split_apart.Statement.{statement}
 use Rattle.items.proofs.splitter.split_apart.Tie as tie
@@ -26,7 +26,7 @@ returns : tie.Need-returns
 returns c = let i = c.before.before.before.before in
     let r = i.read-items in
     let s = i.before.before.before.before.before.before in
-    apart-refused _ _ r.new.1.0 _ r.new.1.1.0 r.result _ c.enum_told.given.1 r.ensures s.args.bytes.now s.args.ends.now
+    apart_refused _ _ r.new.1.0 _ r.new.1.1.0 r.result _ c.enum_told.given.1 r.ensures s.args.bytes.now s.args.ends.now
 
 sub-copy-into : tie.Need-overflow-sub-copy-into
 sub-copy-into c = search rules
@@ -74,7 +74,7 @@ returns-2 c = let a = c.before.before.before.before.before.before.before.before.
     let s = i.before.before.before.before.before.before in
     let r = i.read-items in
     let h = all_known _ _ r.new.1.0 _ r.new.1.1.0 r.result a.answer.given.0.0 a.answer.given.0.1.0 a.answer.given.1 r.ensures in
-    apart-copied _ _ r.new.1.0 _ r.new.1.1.0 _ _ h s.args.bytes.now _ s.args.ends.now _ s.requires.1 s.requires.2 c.before.before.before.before.before.before.before.before.copy-into.ensures.1 c.before.before.copy-numbers-into.ensures.1
+    apart_copied _ _ r.new.1.0 _ r.new.1.1.0 _ _ h s.args.bytes.now _ s.args.ends.now _ s.requires.1 s.requires.2 c.before.before.before.before.before.before.before.before.copy-into.ensures.1 c.before.before.copy-numbers-into.ensures.1
 
 pub split-apart-spec : {M : Type 1} → statement M
 split-apart-spec =

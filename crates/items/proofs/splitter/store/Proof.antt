@@ -3,8 +3,8 @@ use mathlib.Core.Path.{◌≡◌, sym}
 use native.Mathlib.Omega.{arith}
 use mathlib.Core.List.{[], ◌∷◌}
 use lib.ListN.{length-set}
-use Rattle.lines.proofs.Buffers.{put-nil}
-use Rattle.lines.proofs.Stores.{store-one, store_two, store-three, store-four}
+use Rattle.lines.proofs.Buffers.{put_nil}
+use Rattle.lines.proofs.Stores.{store_one, store_two, store_three, store_four}
 use borrow.Author.Rules.{rules}
 use Rattle.items.proofs.splitter.store.Statement.{statement}
 use Rattle.items.proofs.splitter.store.Tie as tie
@@ -12,7 +12,7 @@ use Rattle.items.proofs.splitter.store.Tie as tie
 returns : tie.Need-returns
 returns c = let s = c.before in
     let e : s.args.bytes.count ≡ 0 = omega arith in
-    rw e (sym (put-nil s.args.buffer.now s.args.at))
+    rw e (sym (put_nil s.args.buffer.now s.args.at))
 
 slice-write-buffer : tie.Need-slice-write-buffer
 slice-write-buffer c = search rules
@@ -24,7 +24,7 @@ returns-2 : tie.Need-returns-2
 returns-2 c = let s = c.before.before in
     let b = s.args.bytes in
     let e : b.count ≡ 1 = omega arith in
-    rw e (store-one s.args.buffer.now (b.b0 ∷ []) s.args.at (omega arith) (omega arith))
+    rw e (store_one s.args.buffer.now (b.b0 ∷ []) s.args.at (omega arith) (omega arith))
 
 add-buffer : tie.Need-overflow-add-buffer
 add-buffer c = search rules
@@ -54,7 +54,7 @@ returns-4 : tie.Need-returns-4
 returns-4 c = let s = c.before.before.before.before in
     let b = s.args.bytes in
     let e : b.count ≡ 3 = omega arith in
-    rw e (store-three s.args.buffer.now (b.b0 ∷ b.b1 ∷ b.b2 ∷ []) s.args.at (omega arith) (omega arith))
+    rw e (store_three s.args.buffer.now (b.b0 ∷ b.b1 ∷ b.b2 ∷ []) s.args.at (omega arith) (omega arith))
 
 add-buffer-3 : tie.Need-overflow-add-buffer-3
 add-buffer-3 c = search rules
@@ -69,7 +69,7 @@ returns-5 : tie.Need-returns-5
 returns-5 c = let s = c.before.before.before.before in
     let b = s.args.bytes in
     let e : b.count ≡ 4 = omega arith in
-    rw e (store-four s.args.buffer.now (b.b0 ∷ b.b1 ∷ b.b2 ∷ b.b3 ∷ []) s.args.at (omega arith) (omega arith))
+    rw e (store_four s.args.buffer.now (b.b0 ∷ b.b1 ∷ b.b2 ∷ b.b3 ∷ []) s.args.at (omega arith) (omega arith))
 
 pub store_spec : {M : Type 1} → statement M
 store_spec =

@@ -23,25 +23,25 @@ returns-3 : tie.Need-returns-3
 returns-3 c =
     let d = c.before.before in
     let l = d.before in
-    let no-letter = sym l.before.is-letter.ensures ∙ l.if1.false in
+    let no_letter = sym l.before.is-letter.ensures ∙ l.if1.false in
     let no_digit = sym d.is_digit.ensures ∙ c.before.if2.false in
-    rw (no-letter, no_digit, eq-eqb _ 0x2D c.if3.true)
+    rw (no_letter, no_digit, eq-eqb _ 0x2D c.if3.true)
 
 returns-4 : tie.Need-returns-4
 returns-4 c =
     let d = c.before.before.before in
     let l = d.before in
-    let no-letter = sym l.before.is-letter.ensures ∙ l.if1.false in
+    let no_letter = sym l.before.is-letter.ensures ∙ l.if1.false in
     let no_digit = sym d.is_digit.ensures ∙ c.before.before.if2.false in
-    rw (no-letter, no_digit, ne_eqb _ 0x2D c.before.if3.false, eq-eqb _ 0x5F c.if4.true)
+    rw (no_letter, no_digit, ne_eqb _ 0x2D c.before.if3.false, eq-eqb _ 0x5F c.if4.true)
 
 returns-5 : tie.Need-returns-5
 returns-5 c =
     let d = c.before.before.before in
     let l = d.before in
-    let no-letter = sym l.before.is-letter.ensures ∙ l.if1.false in
+    let no_letter = sym l.before.is-letter.ensures ∙ l.if1.false in
     let no_digit = sym d.is_digit.ensures ∙ c.before.before.if2.false in
-    rw (no-letter, no_digit, ne_eqb _ 0x2D c.before.if3.false, ne_eqb _ 0x5F c.if4.false)
+    rw (no_letter, no_digit, ne_eqb _ 0x2D c.before.if3.false, ne_eqb _ 0x5F c.if4.false)
 
 pub is-key-byte-spec : {M : Type 1} → statement M
 is-key-byte-spec =

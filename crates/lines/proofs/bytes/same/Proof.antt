@@ -6,7 +6,7 @@ use mathlib.Core.Bool.{◌&&◌}
 use lib.ListN.{length, drop}
 use Rattle.lines.specs.Bytes.{equal}
 use Rattle.lines.proofs.Bools.{is_false}
-use Rattle.lines.proofs.Comparison.{equal-length, so_far_more, so-far-all}
+use Rattle.lines.proofs.Comparison.{equal-length, so_far_more, so_far_all}
 use borrow.Author.Rules.{rules}
 use Rattle.lines.proofs.bytes.same.Statement.{statement}
 use Rattle.lines.proofs.bytes.same.Tie as tie
@@ -46,7 +46,7 @@ loop-again c = let l = c.before.before.before.before in
 returns-2 : tie.Need-returns-2 invariant-loop decreases-loop
 returns-2 c = let a = c.before.before.before.before.before.args in
     let l = c.before.loop in
-    so-far-all a.a.now a.b.now l.i l.result (omega arith) (omega arith) l.invariant.1
+    so_far_all a.a.now a.b.now l.i l.result (omega arith) (omega arith) l.invariant.1
 
 pub same_spec : {M : Type 1} → statement M
 same_spec =

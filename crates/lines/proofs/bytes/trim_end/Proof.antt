@@ -5,19 +5,19 @@ use native.Mathlib.Omega.{arith}
 use lib.ListN.{length, take}
 use lib.Seq.{take-length}
 use borrow.Author.Rules.{rules}
-use Rattle.lines.specs.Trim.{trimEnd}
-use Rattle.lines.proofs.Trimming.{end-part, end-blank, end-nonblank, end-done}
+use Rattle.lines.specs.Trim.{trim_end}
+use Rattle.lines.proofs.Trimming.{end_part, end_blank, end_nonblank, end_done}
 use Rattle.lines.proofs.bytes.trim_end.Statement.{statement}
 use Rattle.lines.proofs.bytes.trim_end.Tie as tie
 
 abbrev invariant-loop : tie.invariant-loop
-invariant-loop text end₀ end = (end ≤ length text) × (trimEnd text ≡ trimEnd (take end text))
+invariant-loop text end₀ end = (end ≤ length text) × (trim_end text ≡ trim_end (take end text))
 
 abbrev decreases-loop : tie.decreases-loop
 decreases-loop text end₀ end = end
 
 loop-holds : tie.Need-loop-init invariant-loop decreases-loop
-loop-holds c = (omega arith, ap trimEnd (sym (take-length c.before.args.text.now)))
+loop-holds c = (omega arith, ap trim_end (sym (take-length c.before.args.text.now)))
 
 sub-is-blank : tie.Need-overflow-sub-is-blank invariant-loop decreases-loop
 sub-is-blank c = search rules
@@ -38,7 +38,7 @@ loop-again : tie.Need-loop-preserved invariant-loop decreases-loop
 loop-again c =
     let l = c.before.before.before.before in (
       omega arith,
-      l.loop.invariant.1 ∙ end-blank l.before.before.args.text.now l.loop.end (omega arith) (omega arith) (sym c.before.is-blank.ensures ∙ c.if1.true),
+      l.loop.invariant.1 ∙ end_blank l.before.before.args.text.now l.loop.end (omega arith) (omega arith) (sym c.before.is-blank.ensures ∙ c.if1.true),
     )
 
 sub-result : tie.Need-overflow-sub-result invariant-loop decreases-loop
@@ -55,7 +55,7 @@ returns c =
     let l = c.before.before.before.before.before in
     let s = l.before.before.args.text.now in
     let e = sym c.before.before.is-blank.ensures ∙ c.before.if1.false in
-    end-part s l.loop.end ∙ sym (l.loop.invariant.1 ∙ end-nonblank s l.loop.end (omega arith) (omega arith) e)
+    end_part s l.loop.end ∙ sym (l.loop.invariant.1 ∙ end_nonblank s l.loop.end (omega arith) (omega arith) e)
 
 sub-result-2 : tie.Need-overflow-sub-result-2 invariant-loop decreases-loop
 sub-result-2 c = search rules
@@ -70,7 +70,7 @@ returns-2 : tie.Need-returns-2 invariant-loop decreases-loop
 returns-2 c =
     let l = c.before.before in
     let s = l.before.before.args.text.now in
-    end-part s l.loop.end ∙ sym (l.loop.invariant.1 ∙ end-done s l.loop.end (omega arith))
+    end_part s l.loop.end ∙ sym (l.loop.invariant.1 ∙ end_done s l.loop.end (omega arith))
 
 pub trim-end-spec : {M : Type 1} → statement M
 trim-end-spec =

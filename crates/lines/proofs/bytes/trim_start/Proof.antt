@@ -4,14 +4,14 @@ use Prim.Native.Nat.{◌-◌, ◌≤◌}
 use native.Mathlib.Omega.{arith}
 use lib.ListN.{length, drop}
 use borrow.Author.Rules.{rules}
-use Rattle.lines.specs.Trim.{trimStart}
-use Rattle.lines.proofs.Slices.{part-from}
-use Rattle.lines.proofs.Trimming.{start-blank, start-nonblank, start-done}
+use Rattle.lines.specs.Trim.{trim_start}
+use Rattle.lines.proofs.Slices.{part_from}
+use Rattle.lines.proofs.Trimming.{start_blank, start_nonblank, start_done}
 use Rattle.lines.proofs.bytes.trim_start.Statement.{statement}
 use Rattle.lines.proofs.bytes.trim_start.Tie as tie
 
 abbrev invariant-loop : tie.invariant-loop
-invariant-loop text start₀ start = (start ≤ length text) × (trimStart text ≡ trimStart (drop start text))
+invariant-loop text start₀ start = (start ≤ length text) × (trim_start text ≡ trim_start (drop start text))
 
 abbrev decreases-loop : tie.decreases-loop
 decreases-loop text start₀ start = length text - start
@@ -35,7 +35,7 @@ loop-again : tie.Need-loop-preserved invariant-loop decreases-loop
 loop-again c =
     let l = c.before.before.before.before in (
       omega arith,
-      l.loop.invariant.1 ∙ start-blank l.before.before.args.text.now l.loop.start (omega arith) (sym c.before.is-blank.ensures ∙ c.if1.true),
+      l.loop.invariant.1 ∙ start_blank l.before.before.args.text.now l.loop.start (omega arith) (sym c.before.is-blank.ensures ∙ c.if1.true),
     )
 
 sub-result : tie.Need-overflow-sub-result invariant-loop decreases-loop
@@ -52,7 +52,7 @@ returns c =
     let l = c.before.before.before.before.before in
     let s = l.before.before.args.text.now in
     let e = sym c.before.before.is-blank.ensures ∙ c.before.if1.false in
-    part-from l.loop.start s ∙ sym (l.loop.invariant.1 ∙ start-nonblank s l.loop.start (omega arith) e)
+    part_from l.loop.start s ∙ sym (l.loop.invariant.1 ∙ start_nonblank s l.loop.start (omega arith) e)
 
 sub-result-2 : tie.Need-overflow-sub-result-2 invariant-loop decreases-loop
 sub-result-2 c = search rules
@@ -67,7 +67,7 @@ returns-2 : tie.Need-returns-2 invariant-loop decreases-loop
 returns-2 c =
     let l = c.before.before in
     let s = l.before.before.args.text.now in
-    part-from l.loop.start s ∙ sym (l.loop.invariant.1 ∙ start-done s l.loop.start (omega arith))
+    part_from l.loop.start s ∙ sym (l.loop.invariant.1 ∙ start_done s l.loop.start (omega arith))
 
 pub trim-start-spec : {M : Type 1} → statement M
 trim-start-spec =

@@ -5,9 +5,9 @@ use native.Mathlib.Omega.{arith}
 use lib.ListN.{length, drop}
 use borrow.Author.Rules.{rules}
 use borrow.Author.Tests.{eq-eqb, ne_eqb}
-use Rattle.lines.specs.CharSteps.{longLength}
-use Rattle.lines.proofs.Slices.{part-from}
-use Rattle.lines.proofs.FileLaws.{Passed, passed_start, line-fits, passed-plain, passed-feed, passed-other, passed-long, passed-broken, passed-ended}
+use Rattle.lines.specs.CharSteps.{long_length}
+use Rattle.lines.proofs.Slices.{part_from}
+use Rattle.lines.proofs.FileLaws.{Passed, passed_start, line_fits, passed_plain, passed_feed, passed_other, passed_long, passed_broken, passed_ended}
 use Rattle.lines.proofs.file.check_bytes.Statement.{statement}
 use Rattle.lines.proofs.file.check_bytes.Tie as tie
 
@@ -37,14 +37,14 @@ loop-less c = omega (arith, c.before.before.before.loop-test.true)
 loop-again : tie.Need-loop-preserved invariant-loop decreases-loop
 loop-again c =
     let t = c.before.before.before in
-    passed-plain t.before.loop.invariant t.loop-test.true (sym c.before.is-between.ensures ∙ c.if1.true)
+    passed_plain t.before.loop.invariant t.loop-test.true (sym c.before.is-between.ensures ∙ c.if1.true)
 
 -- ---- an LF
 
 add-line : tie.Need-overflow-add-line invariant-loop decreases-loop
 add-line c =
     let h = c.before.before.before.before.before in
-    omega (arith, line-fits h.loop.invariant, h.before.before.well-formed)
+    omega (arith, line_fits h.loop.invariant, h.before.before.well-formed)
 
 add-i-2 : tie.Need-overflow-add-i-2 invariant-loop decreases-loop
 add-i-2 c = omega (arith, c.before.before.before.before.before.before.before.well-formed)
@@ -55,7 +55,7 @@ loop-less-2 c = omega (arith, c.before.before.before.before.loop-test.true)
 loop-again-2 : tie.Need-loop-preserved-2 invariant-loop decreases-loop
 loop-again-2 c =
     let t = c.before.before.before.before in
-    passed-feed t.before.loop.invariant t.loop-test.true c.if2.true
+    passed_feed t.before.loop.invariant t.loop-test.true c.if2.true
 
 -- ---- another character of one byte
 
@@ -73,7 +73,7 @@ loop-again-3 c =
     let e = c.before.before in
     let t = e.before.before.before.before in
     rw c.control-after.ensures
-    (passed-other t.before.loop.invariant t.loop-test.true e.if2.false c.before.if3.true)
+    (passed_other t.before.loop.invariant t.loop-test.true e.if2.false c.before.if3.true)
 
 -- ---- a longer one
 
@@ -92,16 +92,16 @@ long-length-requires c κs = search rules
 -- what the call tells of the bytes from i on
 seen : (c : tie.After-long-length invariant-loop decreases-loop) →
     let h = c.before.before.before.before.before.before.before.before in
-    c.long-length.result ≡ longLength (drop h.loop.i h.before.before.args.file.now)
+    c.long-length.result ≡ long_length (drop h.loop.i h.before.before.args.file.now)
 seen c =
     let h = c.before.before.before.before.before.before.before.before in
-    c.long-length.ensures ∙ ap longLength (part-from h.loop.i _)
+    c.long-length.ensures ∙ ap long_length (part_from h.loop.i _)
 
 returns : tie.Need-returns invariant-loop decreases-loop
 returns c =
     let e = c.before.before.before in
     let t = e.before.before.before.before.before in
-    sym (passed-broken t.before.loop.invariant t.loop-test.true e.if3.false (sym (seen c.before) ∙ c.if4.true))
+    sym (passed_broken t.before.loop.invariant t.loop-test.true e.if3.false (sym (seen c.before) ∙ c.if4.true))
 
 -- the invariant after such a turn
 again : (c : tie.Else4 invariant-loop decreases-loop) →
@@ -110,7 +110,7 @@ again : (c : tie.Else4 invariant-loop decreases-loop) →
 again c =
     let e = c.before.before.before in
     let t = e.before.before.before.before.before in
-    passed-long t.before.loop.invariant t.loop-test.true c.before.long-length.result e.if3.false
+    passed_long t.before.loop.invariant t.loop-test.true c.before.long-length.result e.if3.false
     (seen c.before) c.if4.false
 
 add-i-4 : tie.Need-overflow-add-i-4 invariant-loop decreases-loop
@@ -123,10 +123,10 @@ loop-again-4 : tie.Need-loop-preserved-4 invariant-loop decreases-loop
 loop-again-4 c = again c
 
 returns-2 : tie.Need-returns-2 invariant-loop decreases-loop
-returns-2 c = sym (passed-ended c.before.before.loop.invariant c.before.loop-test.false ∙ rw (eq-eqb _ _ c.if5.true))
+returns-2 c = sym (passed_ended c.before.before.loop.invariant c.before.loop-test.false ∙ rw (eq-eqb _ _ c.if5.true))
 
 returns-3 : tie.Need-returns-3 invariant-loop decreases-loop
-returns-3 c = sym (passed-ended c.before.before.loop.invariant c.before.loop-test.false ∙ rw (ne_eqb _ _ c.if5.false))
+returns-3 c = sym (passed_ended c.before.before.loop.invariant c.before.loop-test.false ∙ rw (ne_eqb _ _ c.if5.false))
 
 pub check-bytes-spec : {M : Type 1} → statement M
 check-bytes-spec =

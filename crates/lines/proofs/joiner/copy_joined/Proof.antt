@@ -3,7 +3,7 @@ use mathlib.Core.Path.{◌∙◌}
 use Prim.Native.Nat.{◌-◌}
 use native.Mathlib.Omega.{arith}
 use lib.ListN.{length}
-use Rattle.lines.proofs.Walk.{Copied, copied-start, copied-room, copied_more, copied-line, copied-over, piece-shorter}
+use Rattle.lines.proofs.Walk.{Copied, copied_start, copied_room, copied_more, copied_line, copied_over, piece_shorter}
 use Rattle.lines.proofs.joiner.copy_joined.Statement.{statement}
 use Rattle.lines.proofs.joiner.copy_joined.Tie as tie
 
@@ -16,7 +16,7 @@ decreases-loop file buffer₀ c₀ n₀ buffer c n = length file - c.offset
 loop-holds : tie.Need-loop-init invariant-loop decreases-loop
 loop-holds c =
     let s = c.before.before in
-    copied-start s.args.file.now s.args.start s.args.buffer.now s.requires.0
+    copied_start s.args.file.now s.args.start s.args.buffer.now s.requires.0
 
 physical-line-requires : tie.Need-physical-line-requires invariant-loop decreases-loop
 physical-line-requires c κs = record { inside = omega arith; number = c.before.before.loop.invariant.walk.number }
@@ -35,7 +35,7 @@ copy-piece-requires c κs =
     let s = c.before.before.before.before.before.before.before.before.before in
     let l = c.before.before.before.before.before.before.loop in
     let p = c.before.before.before.physical-line in
-    copied-room s.args.file.now s.args.start l.c l.n s.args.buffer.now l.buffer l.invariant p.result p.ensures s.requires.1
+    copied_room s.args.file.now s.args.start l.c l.n s.args.buffer.now l.buffer l.invariant p.result p.ensures s.requires.1
 
 add-n : tie.Need-overflow-add-n invariant-loop decreases-loop
 add-n c =
@@ -43,7 +43,7 @@ add-n c =
     let l = c.before.before.before.before.before.before.before.before.before.before.loop in
     let p = c.before.before.before.before.before.before.before.physical-line in
     let q = c.before.before.before.copy-piece in
-    omega (arith, piece-shorter s.args.file.now s.args.start l.c l.n l.invariant.walk p.result p.ensures, q.ensures.0.length-is, p.ensures.stops)
+    omega (arith, piece_shorter s.args.file.now s.args.start l.c l.n l.invariant.walk p.result p.ensures, q.ensures.0.length_is, p.ensures.stops)
 
 same_length : tie.Need-same-length invariant-loop decreases-loop
 same_length c = c.before.before.before.before.copy-piece.auto.1.0 ∙ c.before.before.before.before.before.before.before.before.before.before.before.loop.invariant.same
@@ -54,7 +54,7 @@ returns c =
     let l = c.before.before.before.before.before.before.before.before.before.before.before.loop in
     let p = c.before.before.before.before.before.before.before.before.physical-line in
     let q = c.before.before.before.before.copy-piece in
-    copied-line s.args.file.now s.args.start l.c l.n s.args.buffer.now l.buffer l.invariant p.result p.ensures q.result q.ensures.0 _ q.ensures.1 c.if2.true
+    copied_line s.args.file.now s.args.start l.c l.n s.args.buffer.now l.buffer l.invariant p.result p.ensures q.result q.ensures.0 _ q.ensures.1 c.if2.true
 
 loop-less : tie.Need-loop-smaller invariant-loop decreases-loop
 loop-less c = omega (arith, c.before.before.before.before.before.before.before.before.physical-line.ensures.later, c.before.before.before.before.before.before.before.before.physical-line.ensures.onward.inside)
@@ -74,7 +74,7 @@ returns-2 : tie.Need-returns-2 invariant-loop decreases-loop
 returns-2 c =
     let s = c.before.before.before.before.before in
     let l = c.before.before.loop in
-    copied-over s.args.file.now s.args.start l.c l.n s.args.buffer.now l.buffer l.invariant (omega arith)
+    copied_over s.args.file.now s.args.start l.c l.n s.args.buffer.now l.buffer l.invariant (omega arith)
 
 pub copy-joined-spec : {M : Type 1} → statement M
 copy-joined-spec =

@@ -1,7 +1,7 @@
 -- `copy_piece`: the line is copied whole, and the last byte of a continued one becomes a space.
 use Prim.Native.Nat.{◌-◌}
 use borrow.Author.Tests.{not-true, not-false}
-use Rattle.lines.proofs.Pieces.{put-nothing, put-line, put-open}
+use Rattle.lines.proofs.Pieces.{put_nothing, put_line, put_open}
 use borrow.Author.Rules.{rules}
 use Rattle.lines.proofs.joiner.copy_piece.Statement.{statement}
 use Rattle.lines.proofs.joiner.copy_piece.Tie as tie
@@ -13,7 +13,7 @@ returns : tie.Need-returns
 returns c =
     let s = c.before.before.before.before in
     let p = c.before.piece_of in
-    (p.ensures, put-nothing s.args.line.now s.args.buffer.now s.args.n p.result p.ensures c.if1.true)
+    (p.ensures, put_nothing s.args.line.now s.args.buffer.now s.args.n p.result p.ensures c.if1.true)
 
 copy-into-requires : tie.Need-copy-into-requires
 copy-into-requires c κs = search rules
@@ -36,7 +36,7 @@ returns-2 c =
     let s = e.before.before.before.before in
     let p = e.before.piece_of in (
       p.ensures,
-      put-open s.args.line.now s.args.buffer.now s.args.n p.result p.ensures e.if1.false s.requires _ c.before.before.before.before.copy-into.ensures.1 (not-true _ c.if2.true),
+      put_open s.args.line.now s.args.buffer.now s.args.n p.result p.ensures e.if1.false s.requires _ c.before.before.before.before.copy-into.ensures.1 (not-true _ c.if2.true),
     )
 
 same-length-2 : tie.Need-same-length-2
@@ -48,7 +48,7 @@ returns-3 c =
     let s = e.before.before.before.before in
     let p = e.before.piece_of in (
       p.ensures,
-      put-line s.args.line.now s.args.buffer.now s.args.n p.result p.ensures e.if1.false s.requires _ c.before.before.before.before.copy-into.ensures.1 (not-false _ c.if2.false),
+      put_line s.args.line.now s.args.buffer.now s.args.n p.result p.ensures e.if1.false s.requires _ c.before.before.before.before.copy-into.ensures.1 (not-false _ c.if2.false),
     )
 
 pub copy-piece-spec : {M : Type 1} → statement M

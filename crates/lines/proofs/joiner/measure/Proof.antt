@@ -2,7 +2,7 @@
 use Prim.Native.Nat.{◌-◌}
 use native.Mathlib.Omega.{arith}
 use lib.ListN.{length}
-use Rattle.lines.proofs.Walk.{Walk, walk_start, walk_more, piece-shorter, measured-line, measured-over}
+use Rattle.lines.proofs.Walk.{Walk, walk_start, walk_more, piece_shorter, measured_line, measured_over}
 use Rattle.lines.proofs.joiner.measure.Statement.{statement}
 use Rattle.lines.proofs.joiner.measure.Tie as tie
 
@@ -36,7 +36,7 @@ add-length c =
     let l = c.before.before.before.before.before.before.before.loop in
     let p = c.before.before.before.before.physical-line in
     let q = c.before.piece_of in
-    omega (arith, piece-shorter f _ l.c l.length l.invariant p.result p.ensures, q.ensures.length-is, p.ensures.stops)
+    omega (arith, piece_shorter f _ l.c l.length l.invariant p.result p.ensures, q.ensures.length_is, p.ensures.stops)
 
 returns : tie.Need-returns invariant-loop decreases-loop
 returns c =
@@ -44,7 +44,7 @@ returns c =
     let l = c.before.before.before.before.before.before.before.before.loop in
     let p = c.before.before.before.before.before.physical-line in
     let q = c.before.before.piece_of in
-    measured-line f _ l.c l.length l.invariant p.result p.ensures q.result q.ensures c.if2.true
+    measured_line f _ l.c l.length l.invariant p.result p.ensures q.result q.ensures c.if2.true
 
 loop-less : tie.Need-loop-smaller invariant-loop decreases-loop
 loop-less c = omega (arith, c.before.before.before.before.before.physical-line.ensures.later, c.before.before.before.before.before.physical-line.ensures.onward.inside)
@@ -61,7 +61,7 @@ returns-2 : tie.Need-returns-2 invariant-loop decreases-loop
 returns-2 c =
     let l = c.before.before.loop in
     let s = c.before.before.before.before in
-    measured-over s.args.file.now _ l.c l.length l.invariant s.requires.at (omega arith)
+    measured_over s.args.file.now _ l.c l.length l.invariant s.requires.at (omega arith)
 
 pub measure-spec : {M : Type 1} → statement M
 measure-spec =

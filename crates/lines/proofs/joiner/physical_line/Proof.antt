@@ -1,5 +1,5 @@
 -- `physical_line`: the line ends at the first LF, or at the file's end.
-use Rattle.lines.proofs.CursorSteps.{at-shut, at_open}
+use Rattle.lines.proofs.CursorSteps.{at_shut, at_open}
 use borrow.Author.Rules.{rules}
 use Rattle.lines.proofs.joiner.physical_line.Statement.{statement}
 use Rattle.lines.proofs.joiner.physical_line.Tie as tie
@@ -16,7 +16,7 @@ add-t9 c = search rules
 returns : tie.Need-returns
 returns c =
     let s = c.before.before.before in
-    at-shut s.args.file.now s.args.c c.before.line-end.result s.requires c.before.line-end.ensures c.if1.true
+    at_shut s.args.file.now s.args.c c.before.line-end.result s.requires c.before.line-end.ensures c.if1.true
 
 returns-2 : tie.Need-returns-2
 returns-2 c =

@@ -9,17 +9,17 @@ use lib.Dec.{eqb}
 use borrow.Author.Rules.{rules}
 use borrow.Author.Tests.{eq-eqb, ne_eqb}
 use Rattle.lines.specs.Bytes.{Bytes}
-use Rattle.lines.specs.Trim.{trimStart}
+use Rattle.lines.specs.Trim.{trim_start}
 use Rattle.lines.specs.Lines.{comment}
-use Rattle.lines.proofs.Physicals.{comment-first}
+use Rattle.lines.proofs.Physicals.{comment_first}
 use Rattle.lines.proofs.physical.is_comment.Statement.{statement}
 use Rattle.lines.proofs.physical.is_comment.Tie as tie
 
 -- by what is left without the blanks
-by-rest : (l t : Bytes) → t ≡ trimStart l → comment l ≡ (eqb (get_or t 0 0) 0x23 || eqb (get_or t 0 0) 0x3B)
-by-rest l t e = rw e (comment-first l)
+by-rest : (l t : Bytes) → t ≡ trim_start l → comment l ≡ (eqb (get_or t 0 0) 0x23 || eqb (get_or t 0 0) 0x3B)
+by-rest l t e = rw e (comment_first l)
 
-none_left : (l t : Bytes) → t ≡ trimStart l → length t ≡ 0 → false ≡ comment l
+none_left : (l t : Bytes) → t ≡ trim_start l → length t ≡ 0 → false ≡ comment l
 none_left l [] e h = sym (by-rest l [] e)
 none_left l (b ∷ bs) e h = absurd (omega arith)
 

@@ -7,7 +7,7 @@ use lib.ListN.{length, drop}
 use borrow.Author.Tests.{eq-eqb, ne_eqb}
 use Rattle.lines.specs.Bytes.{all}
 use Rattle.lines.specs.Lines.{backslash, odd, continued}
-use Rattle.lines.proofs.Runs.{run_none, run_more, run-stops, closing-all}
+use Rattle.lines.proofs.Runs.{run_none, run_more, run_stops, closing_all}
 use Rattle.lines.proofs.physical.is_continued.Statement.{statement}
 use Rattle.lines.proofs.physical.is_continued.Tie as tie
 
@@ -33,7 +33,7 @@ unfolding continued
 returns c =
     let s = c.before.before.before.before.args.line.now in
     let l = c.before.before.before.loop in
-    l.invariant.2 ∙ ap odd (sym (run-stops s (l.n - 1) l.n (omega arith) l.invariant.0 (ne_eqb _ _ c.if1.true) l.invariant.1))
+    l.invariant.2 ∙ ap odd (sym (run_stops s (l.n - 1) l.n (omega arith) l.invariant.0 (ne_eqb _ _ c.if1.true) l.invariant.1))
 
 sub-n : tie.Need-overflow-sub-n invariant-loop decreases-loop
 sub-n c = omega arith
@@ -55,7 +55,7 @@ returns-2 c =
     let l = c.before.loop in
     let z : l.n ≡ 0 = omega arith in
     let e : length s - l.n ≡ length s = omega arith in
-    l.invariant.2 ∙ ap odd (e ∙ sym (closing-all s (rw z at l.invariant.1)))
+    l.invariant.2 ∙ ap odd (e ∙ sym (closing_all s (rw z at l.invariant.1)))
 
 pub is-continued-spec : {M : Type 1} → statement M
 is-continued-spec =

@@ -4,13 +4,13 @@ use Prim.Native.Nat.{◌+◌, ◌-◌, ◌≤◌}
 use native.Mathlib.Omega.{arith}
 use lib.ListN.{length, drop}
 use borrow.Author.Tests.{eq-eqb, ne_eqb}
-use Rattle.lines.specs.LineSteps.{lineLength}
-use Rattle.lines.proofs.Physicals.{lineLength-lf, lineLength-more, lineLength-end}
+use Rattle.lines.specs.LineSteps.{line_length}
+use Rattle.lines.proofs.Physicals.{line_length_lf, line_length_more, line_length_end}
 use Rattle.lines.proofs.physical.line_end.Statement.{statement}
 use Rattle.lines.proofs.physical.line_end.Tie as tie
 
 abbrev invariant-loop : tie.invariant-loop
-invariant-loop file at i₀ i = (at ≤ i) × (i + lineLength (drop i file) ≡ at + lineLength (drop at file))
+invariant-loop file at i₀ i = (at ≤ i) × (i + line_length (drop i file) ≡ at + line_length (drop at file))
 
 abbrev decreases-loop : tie.decreases-loop
 decreases-loop file at i₀ i = length file - i
@@ -25,7 +25,7 @@ returns : tie.Need-returns invariant-loop decreases-loop
 returns c =
     let f = c.before.before.before.before.args.file.now in
     let l = c.before.before.before.loop in
-    omega (arith, l.invariant.1, lineLength-lf f l.i (omega arith) (eq-eqb _ _ c.if1.true))
+    omega (arith, l.invariant.1, line_length_lf f l.i (omega arith) (eq-eqb _ _ c.if1.true))
 
 add-i : tie.Need-overflow-add-i invariant-loop decreases-loop
 add-i c = omega arith
@@ -37,13 +37,13 @@ loop-again : tie.Need-loop-preserved invariant-loop decreases-loop
 loop-again c =
     let f = c.before.before.before.before.args.file.now in
     let l = c.before.before.before.loop in
-    (omega arith, omega (arith, l.invariant.1, lineLength-more f l.i (omega arith) (ne_eqb _ _ c.if1.false)))
+    (omega arith, omega (arith, l.invariant.1, line_length_more f l.i (omega arith) (ne_eqb _ _ c.if1.false)))
 
 returns-2 : tie.Need-returns-2 invariant-loop decreases-loop
 returns-2 c =
     let f = c.before.before.args.file.now in
     let l = c.before.loop in
-    omega (arith, l.invariant.1, lineLength-end f l.i c.loop-test.false)
+    omega (arith, l.invariant.1, line_length_end f l.i c.loop-test.false)
 
 pub line-end-spec : {M : Type 1} → statement M
 line-end-spec =

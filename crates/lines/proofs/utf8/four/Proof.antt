@@ -3,7 +3,7 @@ use mathlib.Core.Path.{sym, ◌∙◌}
 use mathlib.Core.List.{[], ◌∷◌}
 use borrow.Author.Rules.{rules}
 use Rattle.lines.specs.Utf8.{range, tail}
-use Rattle.lines.proofs.Characters.{by_index, inEach}
+use Rattle.lines.proofs.Characters.{by_index, in_each}
 use Rattle.lines.proofs.utf8.four.Statement.{statement}
 use Rattle.lines.proofs.utf8.four.Tie as tie
 
@@ -17,7 +17,7 @@ in-range-requires-3 : tie.Need-in-range-requires-3
 in-range-requires-3 c κs = search rules
 
 returns : tie.Need-returns
-unfolding inEach
+unfolding in_each
 returns c =
     let a = c.before.before.before.before.before.before.before.args in
     rw (
@@ -28,7 +28,7 @@ returns c =
     )
 
 returns-2 : tie.Need-returns-2
-unfolding inEach
+unfolding in_each
 returns-2 c =
     let a = c.before.before.before.before.before.before.before.args in
     rw (
@@ -39,7 +39,7 @@ returns-2 c =
     )
 
 returns-3 : tie.Need-returns-3
-unfolding inEach
+unfolding in_each
 returns-3 c =
     let a = c.before.before.before.before.before.args in
     rw (
@@ -49,7 +49,7 @@ returns-3 c =
     )
 
 returns-4 : tie.Need-returns-4
-unfolding inEach
+unfolding in_each
 returns-4 c =
     let a = c.before.before.before.args in
     rw (

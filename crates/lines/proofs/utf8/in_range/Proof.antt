@@ -1,12 +1,12 @@
 -- `in_range`: past the end there is no byte; else `is_between` tests it.
 use borrow.Author.Tests.{le-ltb, lt-ltb}
-use Rattle.lines.specs.CharSteps.{inAt}
+use Rattle.lines.specs.CharSteps.{in_at}
 use borrow.Author.Rules.{rules}
 use Rattle.lines.proofs.utf8.in_range.Statement.{statement}
 use Rattle.lines.proofs.utf8.in_range.Tie as tie
 
 returns : tie.Need-returns
-unfolding inAt
+unfolding in_at
 returns c = simp (le-ltb _ _ c.if1.true)
 
 shared-slice-read-is-between : tie.Need-shared-slice-read-is-between
@@ -16,7 +16,7 @@ is-between-requires : tie.Need-is-between-requires
 is-between-requires c κs = search rules
 
 returns-2 : tie.Need-returns-2
-unfolding inAt
+unfolding in_at
 returns-2 c = simp (lt-ltb _ _ c.before.before.if1.false) c.is-between.ensures
 
 pub in-range-spec : {M : Type 1} → statement M

@@ -3,7 +3,7 @@ use mathlib.Core.Path.{sym, ◌∙◌}
 use mathlib.Core.List.{[], ◌∷◌}
 use borrow.Author.Rules.{rules}
 use Rattle.lines.specs.Utf8.{range, tail}
-use Rattle.lines.proofs.Characters.{by_index, inEach}
+use Rattle.lines.proofs.Characters.{by_index, in_each}
 use Rattle.lines.proofs.utf8.three.Statement.{statement}
 use Rattle.lines.proofs.utf8.three.Tie as tie
 
@@ -14,7 +14,7 @@ in-range-requires-2 : tie.Need-in-range-requires-2
 in-range-requires-2 c κs = search rules
 
 returns : tie.Need-returns
-unfolding inEach
+unfolding in_each
 returns c =
     let a = c.before.before.before.before.before.args in
     rw (
@@ -24,7 +24,7 @@ returns c =
     )
 
 returns-2 : tie.Need-returns-2
-unfolding inEach
+unfolding in_each
 returns-2 c =
     let a = c.before.before.before.before.before.args in
     rw (
@@ -34,7 +34,7 @@ returns-2 c =
     )
 
 returns-3 : tie.Need-returns-3
-unfolding inEach
+unfolding in_each
 returns-3 c =
     let a = c.before.before.before.args in
     rw (

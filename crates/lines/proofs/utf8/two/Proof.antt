@@ -3,7 +3,7 @@ use mathlib.Core.Path.{sym, ◌∙◌}
 use mathlib.Core.List.{[], ◌∷◌}
 use borrow.Author.Rules.{rules}
 use Rattle.lines.specs.Utf8.{tail}
-use Rattle.lines.proofs.Characters.{by_index, inEach}
+use Rattle.lines.proofs.Characters.{by_index, in_each}
 use Rattle.lines.proofs.utf8.two.Statement.{statement}
 use Rattle.lines.proofs.utf8.two.Tie as tie
 
@@ -11,7 +11,7 @@ in-range-requires : tie.Need-in-range-requires
 in-range-requires c κs = search rules
 
 returns : tie.Need-returns
-unfolding inEach
+unfolding in_each
 returns c =
     rw (
       by_index (tail ∷ []) c.before.before.before.args.text.now,
@@ -19,7 +19,7 @@ returns c =
     )
 
 returns-2 : tie.Need-returns-2
-unfolding inEach
+unfolding in_each
 returns-2 c =
     rw (
       by_index (tail ∷ []) c.before.before.before.args.text.now,

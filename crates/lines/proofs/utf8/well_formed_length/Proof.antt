@@ -7,10 +7,10 @@ use mathlib.Core.Bool.{true}
 use lib.ListN.{length, take, drop, drop_of_length-le}
 use borrow.Author.Rules.{rules}
 use Rattle.lines.specs.Utf8.{well, utf8}
-use Rattle.lines.specs.CharSteps.{charLength}
-use Rattle.lines.proofs.Slices.{part-from}
-use Rattle.lines.proofs.Characters.{char-nil}
-use Rattle.lines.proofs.LongestStart.{more-fits, more-legal, start-ends}
+use Rattle.lines.specs.CharSteps.{char_length}
+use Rattle.lines.proofs.Slices.{part_from}
+use Rattle.lines.proofs.Characters.{char_nil}
+use Rattle.lines.proofs.LongestStart.{more_fits, more_legal, start_ends}
 use Rattle.lines.proofs.utf8.well_formed_length.Statement.{statement}
 use Rattle.lines.proofs.utf8.well_formed_length.Tie as tie
 
@@ -39,13 +39,13 @@ char-length-requires c κs = search rules
 -- what the call tells of the bytes from i on
 found : (c : tie.After-char-length invariant-loop decreases-loop)
     → c.char-length.result
-    ≡ charLength (drop c.before.before.before.loop.i c.before.before.before.before.before.args.text.now)
-found c = c.char-length.ensures ∙ ap charLength (part-from c.before.before.before.loop.i _)
+    ≡ char_length (drop c.before.before.before.loop.i c.before.before.before.before.before.args.text.now)
+found c = c.char-length.ensures ∙ ap char_length (part_from c.before.before.before.loop.i _)
 
 returns : tie.Need-returns invariant-loop decreases-loop
 returns c =
     let h = c.before.before.before.before in
-    sym (start-ends h.before.before.args.text.now h.loop.i h.loop.invariant.0 h.loop.invariant.1
+    sym (start_ends h.before.before.args.text.now h.loop.i h.loop.invariant.0 h.loop.invariant.1
     (sym (found c.before) ∙ c.if1.true))
 
 -- the character at i lies inside
@@ -55,7 +55,7 @@ inside : (c : tie.Else1 invariant-loop decreases-loop)
 inside c =
     let h = c.before.before.before.before in
     rw (found c.before)
-    (more-fits h.before.before.args.text.now h.loop.i h.loop.invariant.0 h.loop.invariant.1)
+    (more_fits h.before.before.args.text.now h.loop.i h.loop.invariant.0 h.loop.invariant.1)
 
 add-i : tie.Need-overflow-add-i invariant-loop decreases-loop
 add-i c = omega (arith, inside c)
@@ -68,14 +68,14 @@ loop-again c =
     let h = c.before.before.before.before in (
       inside c,
       rw (found c.before)
-          (more-legal h.before.before.args.text.now h.loop.i h.loop.invariant.0 h.loop.invariant.1),
+          (more_legal h.before.before.args.text.now h.loop.i h.loop.invariant.0 h.loop.invariant.1),
     )
 
 returns-2 : tie.Need-returns-2 invariant-loop decreases-loop
 returns-2 c =
     let h = c.before in
-    sym (start-ends h.before.before.args.text.now h.loop.i h.loop.invariant.0 h.loop.invariant.1
-    (ap charLength (drop_of_length-le h.before.before.args.text.now c.loop-test.false) ∙ char-nil))
+    sym (start_ends h.before.before.args.text.now h.loop.i h.loop.invariant.0 h.loop.invariant.1
+    (ap char_length (drop_of_length-le h.before.before.args.text.now c.loop-test.false) ∙ char_nil))
 
 pub well-formed-length-spec : {M : Type 1} → statement M
 well-formed-length-spec =

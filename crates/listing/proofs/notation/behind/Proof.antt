@@ -3,7 +3,7 @@ use mathlib.Core.Path.{sym}
 use native.Mathlib.Omega.{arith}
 use lib.ListN.{drop_of_length-le}
 use borrow.Author.Rules.{rules}
-use Rattle.lines.proofs.Slices.{part-from}
+use Rattle.lines.proofs.Slices.{part_from}
 use Rattle.listing.proofs.notation.behind.Statement.{statement}
 use Rattle.listing.proofs.notation.behind.Tie as tie
 
@@ -19,7 +19,7 @@ part-result-end c = search rules
 returns : tie.Need-returns
 returns c =
     let s = c.before.before in
-    part-from s.args.n s.args.text.now
+    part_from s.args.n s.args.text.now
 
 sub-result-2 : tie.Need-overflow-sub-result-2
 sub-result-2 c = search rules

@@ -13,7 +13,7 @@ front-requires : tie.Need-front-requires
 front-requires c κs = search rules
 
 returns : tie.Need-returns
-returns c = rw (c.front.ensures, c.before.line-length.ensures, c.before.before.behind.ensures)
+returns c = rw (c.front.ensures, c.before.line_length_lem.ensures, c.before.before.behind.ensures)
 
 pub line-at-spec : {M : Type 1} → statement M
 line-at-spec = tie.close (tie.spec behind-requires line-length-requires front-requires returns)

@@ -5,13 +5,13 @@ use native.Mathlib.Omega.{arith}
 use lib.ListN.{length, drop}
 use borrow.Author.Rules.{rules}
 use borrow.Author.Tests.{eq-eqb, ne_eqb}
-use Rattle.lines.specs.LineSteps.{lineLength}
-use Rattle.lines.proofs.Physicals.{lineLength-lf, lineLength-more, lineLength-end}
+use Rattle.lines.specs.LineSteps.{line_length}
+use Rattle.lines.proofs.Physicals.{line_length_lf, line_length_more, line_length_end}
 use Rattle.listing.proofs.notation.line_length.Statement.{statement}
 use Rattle.listing.proofs.notation.line_length.Tie as tie
 
 abbrev invariant-loop : tie.invariant-loop
-invariant-loop text i₀ i = i + lineLength (drop i text) ≡ lineLength text
+invariant-loop text i₀ i = i + line_length (drop i text) ≡ line_length text
 
 abbrev decreases-loop : tie.decreases-loop
 decreases-loop text i₀ i = length text - i
@@ -26,7 +26,7 @@ returns : tie.Need-returns invariant-loop decreases-loop
 returns c =
     let t = c.before.before.before.before.args.text.now in
     let l = c.before.before.before.loop in
-    omega (arith, l.invariant, lineLength-lf t l.i (omega arith) (eq-eqb _ _ c.if1.true))
+    omega (arith, l.invariant, line_length_lf t l.i (omega arith) (eq-eqb _ _ c.if1.true))
 
 add-i : tie.Need-overflow-add-i invariant-loop decreases-loop
 add-i c = search rules
@@ -38,13 +38,13 @@ loop-again : tie.Need-loop-preserved invariant-loop decreases-loop
 loop-again c =
     let t = c.before.before.before.before.args.text.now in
     let l = c.before.before.before.loop in
-    omega (arith, l.invariant, lineLength-more t l.i (omega arith) (ne_eqb _ _ c.if1.false))
+    omega (arith, l.invariant, line_length_more t l.i (omega arith) (ne_eqb _ _ c.if1.false))
 
 returns-2 : tie.Need-returns-2 invariant-loop decreases-loop
 returns-2 c =
     let t = c.before.before.args.text.now in
     let l = c.before.loop in
-    omega (arith, l.invariant, lineLength-end t l.i c.loop-test.false)
+    omega (arith, l.invariant, line_length_end t l.i c.loop-test.false)
 
 pub line-length-spec : {M : Type 1} → statement M
 line-length-spec =

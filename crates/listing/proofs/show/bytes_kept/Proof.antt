@@ -5,7 +5,7 @@ use native.Mathlib.Omega.{arith}
 use lib.ListN.{length}
 use borrow.Author.Rules.{rules}
 use Rattle.listing.specs.Kept.{kept}
-use Rattle.listing.proofs.Keeping.{kept_next, kept-not, kept-end}
+use Rattle.listing.proofs.Keeping.{kept_next, kept_not, kept_end}
 use Rattle.listing.proofs.show.bytes_kept.Statement.{statement}
 use Rattle.listing.proofs.show.bytes_kept.Tie as tie
 
@@ -25,7 +25,7 @@ returns : tie.Need-returns invariant-loop decreases-loop
 returns c =
     let b = c.before.before.before.before.args.buffer.now in
     let l = c.before.before.before.loop in
-    sym (l.invariant.1 ∙ kept-not 0xA5 b l.i (omega arith) c.if1.true)
+    sym (l.invariant.1 ∙ kept_not 0xA5 b l.i (omega arith) c.if1.true)
 
 add-i : tie.Need-overflow-add-i invariant-loop decreases-loop
 add-i c = search rules
@@ -43,7 +43,7 @@ returns-2 : tie.Need-returns-2 invariant-loop decreases-loop
 returns-2 c =
     let b = c.before.before.args.buffer.now in
     let l = c.before.loop in
-    sym (l.invariant.1 ∙ kept-end 0xA5 b l.i (omega arith))
+    sym (l.invariant.1 ∙ kept_end 0xA5 b l.i (omega arith))
 
 pub bytes-kept-spec : {M : Type 1} → statement M
 bytes-kept-spec =

@@ -1,17 +1,17 @@
 -- `lay` copies both where they fit (`Laying`).
 use native.Mathlib.Omega.{arith}
 use borrow.Author.Rules.{rules}
-use Rattle.listing.proofs.Laying.{unfit-head, unfit-tail, fit}
+use Rattle.listing.proofs.Laying.{unfit_head, unfit_tail, fit}
 use Rattle.listing.proofs.texts.lay.Statement.{statement}
 use Rattle.listing.proofs.texts.lay.Tie as tie
 
 returns : tie.Need-returns
-returns c = unfit-head _ _ _ _ c.if1.true
+returns c = unfit_head _ _ _ _ c.if1.true
 
 returns-2 : tie.Need-returns-2
 returns-2 c =
     let s = c.before.before.before.before.before in
-    unfit-tail s.args.buffer.now s.args.head.now s.args.at s.args.tail.now (omega arith)
+    unfit_tail s.args.buffer.now s.args.head.now s.args.at s.args.tail.now (omega arith)
 
 sub-if3 : tie.Need-overflow-sub-if3
 sub-if3 c = search rules
@@ -19,7 +19,7 @@ sub-if3 c = search rules
 returns-3 : tie.Need-returns-3
 returns-3 c =
     let s = c.before.before.before.before.before.before in
-    unfit-tail s.args.buffer.now s.args.head.now s.args.at s.args.tail.now (omega arith)
+    unfit_tail s.args.buffer.now s.args.head.now s.args.at s.args.tail.now (omega arith)
 
 copy-into-requires : tie.Need-copy-into-requires
 copy-into-requires c κs = search rules

@@ -3,7 +3,7 @@ use Prim.Native.Nat.{◌+◌}
 use native.Mathlib.Omega.{arith}
 use lib.ListN.{length}
 use borrow.Author.Rules.{rules}
-use Rattle.listing.proofs.Laying.{unfit-tail}
+use Rattle.listing.proofs.Laying.{unfit_tail}
 use Rattle.listing.proofs.texts.lay_apart.Statement.{statement}
 use Rattle.listing.proofs.texts.lay_apart.Tie as tie
 
@@ -11,7 +11,7 @@ returns : tie.Need-returns
 returns c =
     let s = c.before.before.before.before in
     let h = s.args.head.now in
-    unfit-tail s.args.buffer.now h (length h + s.args.count) s.args.tail.now (omega arith)
+    unfit_tail s.args.buffer.now h (length h + s.args.count) s.args.tail.now (omega arith)
 
 sub-if2 : tie.Need-overflow-sub-if2
 sub-if2 c = search rules
@@ -20,7 +20,7 @@ returns-2 : tie.Need-returns-2
 returns-2 c =
     let s = c.before.before.before.before.before in
     let h = s.args.head.now in
-    unfit-tail s.args.buffer.now h (length h + s.args.count) s.args.tail.now (omega arith)
+    unfit_tail s.args.buffer.now h (length h + s.args.count) s.args.tail.now (omega arith)
 
 add_at : tie.Need-overflow-add-at
 add_at c = search rules

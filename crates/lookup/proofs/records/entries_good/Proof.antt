@@ -4,20 +4,20 @@ use mathlib.Core.Path.{sym, ◌∙◌}
 use native.Mathlib.Omega.{arith}
 use borrow.Author.Tests.{not-true, not-false}
 use borrow.Author.Rules.{rules}
-use Rattle.lookup.specs.Decoding.{entriesIn}
+use Rattle.lookup.specs.Decoding.{entries_in}
 use Rattle.lookup.specs.Steps.{there}
-use Rattle.lookup.proofs.Walking.{Walked, walked_start, walked_end, walked-short, walked-bad, walked-good, entries-by-records}
+use Rattle.lookup.proofs.Walking.{Walked, walked_start, walked_end, walked_short, walked_bad, walked_good, entries_by_records}
 use Rattle.lookup.proofs.records.entries_good.Statement.{statement}
 use Rattle.lookup.proofs.records.entries_good.Tie as tie
 
 abbrev invariant-loop : tie.invariant-loop
-invariant-loop text section-count entries count at₀ left₀ at left = Walked entries (λ m l. there (entriesIn text section-count m l)) count at left
+invariant-loop text section_count_lem entries count at₀ left₀ at left = Walked entries (λ m l. there (entries_in text section_count_lem m l)) count at left
 
 abbrev decreases-loop : tie.decreases-loop
-decreases-loop text section-count entries count at₀ left₀ at left = left
+decreases-loop text section_count_lem entries count at₀ left₀ at left = left
 
 loop-holds : tie.Need-loop-init invariant-loop decreases-loop
-loop-holds c = walked_start _ _ _ _ (entries-by-records _ _ _) _
+loop-holds c = walked_start _ _ _ _ (entries_by_records _ _ _) _
 
 sub-if1 : tie.Need-overflow-sub-if1 invariant-loop decreases-loop
 sub-if1 c = search rules
@@ -25,7 +25,7 @@ sub-if1 c = search rules
 returns : tie.Need-returns invariant-loop decreases-loop
 returns c = let l = c.before.before in
     let a = l.before.before.before.args in
-    walked-short _ _ _ _ (entries-by-records a.text.now a.section-count a.entries.now) a.count l.loop.at l.loop.left l.loop.invariant c.before.loop-test.true c.if1.true
+    walked_short _ _ _ _ (entries_by_records a.text.now a.section_count_lem a.entries.now) a.count l.loop.at l.loop.left l.loop.invariant c.before.loop-test.true c.if1.true
 
 entry-good-requires : tie.Need-entry-good-requires invariant-loop decreases-loop
 entry-good-requires c κs = search rules
@@ -35,7 +35,7 @@ returns-2 c = let i = c.before in
     let n = i.before.before in
     let l = n.before in
     let a = l.before.before.before.args in
-    walked-bad _ _ _ _ (entries-by-records a.text.now a.section-count a.entries.now) a.count l.loop.at l.loop.left l.loop.invariant n.loop-test.true (omega arith) (sym i.entry-good.ensures ∙ not-true _ c.if2.true)
+    walked_bad _ _ _ _ (entries_by_records a.text.now a.section_count_lem a.entries.now) a.count l.loop.at l.loop.left l.loop.invariant n.loop-test.true (omega arith) (sym i.entry-good.ensures ∙ not-true _ c.if2.true)
 
 add_at : tie.Need-overflow-add-at invariant-loop decreases-loop
 add_at c = search rules
@@ -51,12 +51,12 @@ loop-again c = let i = c.before in
     let n = i.before.before in
     let l = n.before in
     let a = l.before.before.before.args in
-    walked-good _ _ _ _ (entries-by-records a.text.now a.section-count a.entries.now) a.count l.loop.at l.loop.left l.loop.invariant n.loop-test.true (omega arith) (sym i.entry-good.ensures ∙ not-false _ c.if2.false)
+    walked_good _ _ _ _ (entries_by_records a.text.now a.section_count_lem a.entries.now) a.count l.loop.at l.loop.left l.loop.invariant n.loop-test.true (omega arith) (sym i.entry-good.ensures ∙ not-false _ c.if2.false)
 
 returns-3 : tie.Need-returns-3 invariant-loop decreases-loop
 returns-3 c = let l = c.before in
     let a = l.before.before.before.args in
-    walked_end _ _ _ _ (entries-by-records a.text.now a.section-count a.entries.now) a.count l.loop.at l.loop.left l.loop.invariant (omega arith)
+    walked_end _ _ _ _ (entries_by_records a.text.now a.section_count_lem a.entries.now) a.count l.loop.at l.loop.left l.loop.invariant (omega arith)
 
 pub entries-good-spec : {M : Type 1} → statement M
 entries-good-spec =

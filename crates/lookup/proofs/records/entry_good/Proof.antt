@@ -1,6 +1,6 @@
 -- `entry_good`: three tests, one after another.
 use mathlib.Core.Path.{sym, ◌∙◌}
-use Rattle.lookup.proofs.Walking.{entry-bad-section, entry-bad-key, entry-by-value}
+use Rattle.lookup.proofs.Walking.{entry_bad_section, entry_bad_key, entry_by_value}
 use borrow.Author.Tests.{not-true, not-false}
 use borrow.Author.Rules.{rules}
 use Rattle.lookup.proofs.records.entry_good.Statement.{statement}
@@ -14,7 +14,7 @@ shared-slice-read-if1 c = search rules
 
 returns : tie.Need-returns
 returns c = let a = c.before.before.before.before.args in
-    entry-bad-section a.text.now a.section-count a.entries.now a.at c.if1.true
+    entry_bad_section a.text.now a.section_count_lem a.entries.now a.at c.if1.true
 
 add-is-inside : tie.Need-overflow-add-is-inside
 add-is-inside c = search rules
@@ -41,7 +41,7 @@ returns-2 : tie.Need-returns-2
 returns-2 c = let i = c.before in
     let e = i.before.before.before in
     let a = e.before.before.before.before.args in
-    entry-bad-key a.text.now a.section-count a.entries.now a.at e.if1.false (sym i.is-inside.ensures ∙ not-true _ c.if2.true)
+    entry_bad_key a.text.now a.section_count_lem a.entries.now a.at e.if1.false (sym i.is-inside.ensures ∙ not-true _ c.if2.true)
 
 add-is-inside-3 : tie.Need-overflow-add-is-inside-3
 add-is-inside-3 c = search rules
@@ -69,7 +69,7 @@ returns-3 c = let d = c.before.before.before in
     let i = d.before in
     let e = i.before.before.before in
     let a = e.before.before.before.before.args in
-    entry-by-value a.text.now a.section-count a.entries.now a.at e.if1.false (sym i.is-inside.ensures ∙ not-false _ d.if2.false) c.is-inside2.result c.is-inside2.ensures
+    entry_by_value a.text.now a.section_count_lem a.entries.now a.at e.if1.false (sym i.is-inside.ensures ∙ not-false _ d.if2.false) c.is-inside2.result c.is-inside2.ensures
 
 pub entry-good-spec : {M : Type 1} → statement M
 entry-good-spec =

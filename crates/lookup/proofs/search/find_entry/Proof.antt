@@ -21,11 +21,11 @@ last-entry-requires c κs = search rules
 
 returns : tie.Need-returns
 returns c = let a = c.before.before.before.before.before.before.before.before.args in
-    subst (λ (w : Which). Finds (lent a.text.now a.sections.now a.section-count a.entries.now a.entry-count) w a.section.now a.key.now c.first_entry.result) (sym c.before.enum_told.given.1) c.first_entry.ensures
+    subst (λ (w : Which). Finds (lent a.text.now a.sections.now a.section_count_lem a.entries.now a.entry_count_lem) w a.section.now a.key.now c.first_entry.result) (sym c.before.enum_told.given.1) c.first_entry.ensures
 
 returns-2 : tie.Need-returns-2
 returns-2 c = let a = c.before.before.before.before.before.before.before.before.args in
-    subst (λ (w : Which). Finds (lent a.text.now a.sections.now a.section-count a.entries.now a.entry-count) w a.section.now a.key.now c.last_entry.result) (sym c.before.enum-told2.given.1) c.last_entry.ensures
+    subst (λ (w : Which). Finds (lent a.text.now a.sections.now a.section_count_lem a.entries.now a.entry_count_lem) w a.section.now a.key.now c.last_entry.result) (sym c.before.enum-told2.given.1) c.last_entry.ensures
 
 pub find-entry-spec : {M : Type 1} → statement M
 find-entry-spec =

@@ -4,36 +4,36 @@ use mathlib.Core.Path.{sym, ◌∙◌}
 use native.Mathlib.Omega.{arith}
 use borrow.Author.Rules.{rules}
 use Rattle.lookup.specs.Decoding.{lent}
-use Rattle.lookup.proofs.Searching.{FirstAhead, first-start, first_found, first_more, first-over, inside-there}
+use Rattle.lookup.proofs.Searching.{FirstAhead, first_start, first_found, first_more, first_over, inside-there}
 use Rattle.lookup.proofs.search.first_entry.Statement.{statement}
 use Rattle.lookup.proofs.search.first_entry.Tie as tie
 
 abbrev invariant-loop : tie.invariant-loop
-invariant-loop section key text sections section-count entries entry-count i₀ i = FirstAhead (lent text sections section-count entries entry-count) section key i
+invariant-loop section key text sections section_count_lem entries entry_count_lem i₀ i = FirstAhead (lent text sections section_count_lem entries entry_count_lem) section key i
 
 abbrev decreases-loop : tie.decreases-loop
-decreases-loop section key text sections section-count entries entry-count i₀ i = entry-count - i
+decreases-loop section key text sections section_count_lem entries entry_count_lem i₀ i = entry_count_lem - i
 
 loop-holds : tie.Need-loop-init invariant-loop decreases-loop
-loop-holds c = first-start _ _ _
+loop-holds c = first_start _ _ _
 
 mul-is-entry : tie.Need-overflow-mul-is-entry invariant-loop decreases-loop
 mul-is-entry c = let l = c.before in
     let s = l.before.before.before.before.before.before in
     let a = s.args in
-    omega (arith, (inside-there (lent a.text.now a.sections.now a.section-count a.entries.now a.entry-count) s.requires l.loop.i c.loop-test.true).there-is)
+    omega (arith, (inside-there (lent a.text.now a.sections.now a.section_count_lem a.entries.now a.entry_count_lem) s.requires l.loop.i c.loop-test.true).there_is)
 
 is-entry-requires : tie.Need-is-entry-requires invariant-loop decreases-loop
 is-entry-requires c κs = let l = c.before in
     let s = l.before.before.before.before.before.before in
     let a = s.args in
-    inside-there (lent a.text.now a.sections.now a.section-count a.entries.now a.entry-count) s.requires l.loop.i c.loop-test.true
+    inside-there (lent a.text.now a.sections.now a.section_count_lem a.entries.now a.entry_count_lem) s.requires l.loop.i c.loop-test.true
 
 returns : tie.Need-returns invariant-loop decreases-loop
 returns c = let t = c.before.before in
     let l = t.before in
     let a = l.before.before.before.before.before.before.args in
-    first_found (lent a.text.now a.sections.now a.section-count a.entries.now a.entry-count) _ _ l.loop.i l.loop.invariant t.loop-test.true (sym c.before.is-entry.ensures ∙ c.if1.true)
+    first_found (lent a.text.now a.sections.now a.section_count_lem a.entries.now a.entry_count_lem) _ _ l.loop.i l.loop.invariant t.loop-test.true (sym c.before.is-entry.ensures ∙ c.if1.true)
 
 add-i : tie.Need-overflow-add-i invariant-loop decreases-loop
 add-i c = search rules
@@ -45,12 +45,12 @@ loop-again : tie.Need-loop-preserved invariant-loop decreases-loop
 loop-again c = let t = c.before.before in
     let l = t.before in
     let a = l.before.before.before.before.before.before.args in
-    first_more (lent a.text.now a.sections.now a.section-count a.entries.now a.entry-count) _ _ l.loop.i l.loop.invariant t.loop-test.true (sym c.before.is-entry.ensures ∙ c.if1.false)
+    first_more (lent a.text.now a.sections.now a.section_count_lem a.entries.now a.entry_count_lem) _ _ l.loop.i l.loop.invariant t.loop-test.true (sym c.before.is-entry.ensures ∙ c.if1.false)
 
 returns-2 : tie.Need-returns-2 invariant-loop decreases-loop
 returns-2 c = let l = c.before in
     let a = l.before.before.before.before.before.before.args in
-    first-over (lent a.text.now a.sections.now a.section-count a.entries.now a.entry-count) _ _ l.loop.i l.loop.invariant (omega arith)
+    first_over (lent a.text.now a.sections.now a.section_count_lem a.entries.now a.entry_count_lem) _ _ l.loop.i l.loop.invariant (omega arith)
 
 pub first-entry-spec : {M : Type 1} → statement M
 first-entry-spec =

@@ -1,7 +1,7 @@
 -- `is_entry`: the key, then the name of the section.
 use mathlib.Core.Path.{sym, ◌∙◌}
 use borrow.Author.Tests.{not-true, not-false}
-use Rattle.lookup.proofs.Searching.{key-differs, key-same}
+use Rattle.lookup.proofs.Searching.{key_differs, key_same_lem}
 use borrow.Author.Rules.{rules}
 use Rattle.lookup.proofs.search.is_entry.Statement.{statement}
 use Rattle.lookup.proofs.search.is_entry.Tie as tie
@@ -29,7 +29,7 @@ is-part-requires c κs = search rules
 
 returns : tie.Need-returns
 returns c = let a = c.before.before.before.before.before.before.before.before.before.args in
-    key-differs a.section.now a.key.now a.text.now a.sections.now a.entries.now a.at (sym c.before.is-part.ensures ∙ not-true _ c.if1.true)
+    key_differs a.section.now a.key.now a.text.now a.sections.now a.entries.now a.at (sym c.before.is-part.ensures ∙ not-true _ c.if1.true)
 
 mul-index : tie.Need-overflow-mul-index
 mul-index c = search rules
@@ -64,7 +64,7 @@ is-part-requires-2 c κs = search rules
 returns-2 : tie.Need-returns-2
 returns-2 c = let e = c.before.before.before.before in
     let a = e.before.before.before.before.before.before.before.before.before.args in
-    key-same a.section.now a.key.now a.text.now a.sections.now a.entries.now a.at (sym e.before.is-part.ensures ∙ not-false _ e.if1.false) c.is-part2.result c.is-part2.ensures
+    key_same_lem a.section.now a.key.now a.text.now a.sections.now a.entries.now a.at (sym e.before.is-part.ensures ∙ not-false _ e.if1.false) c.is-part2.result c.is-part2.ensures
 
 pub is-entry-spec : {M : Type 1} → statement M
 is-entry-spec =

@@ -2,7 +2,7 @@
 use native.Mathlib.Omega.{arith}
 use lib.ListN.{length}
 use borrow.Author.Rules.{rules}
-use Rattle.normal_text.proofs.LinkLaws.{Linking, link_start, section-inside, link-step, link-end}
+use Rattle.normal_text.proofs.LinkLaws.{Linking, link_start, section_inside, link_step, link_end}
 use Rattle.normal_text.proofs.links.link.Statement.{statement}
 use Rattle.normal_text.proofs.links.link.Tie as tie
 
@@ -35,15 +35,15 @@ mul-nexts : tie.Need-overflow-mul-nexts invariant-loop decreases-loop
 mul-nexts c = let t = c.before in
     let l = t.before in
     let s = l.before in
-    let h = section-inside s.args.entries.now s.args.count _ _ l.loop.i l.loop.firsts l.loop.nexts l.loop.invariant t.loop-test.true s.requires.3 s.requires.1 in
+    let h = section_inside s.args.entries.now s.args.count _ _ l.loop.i l.loop.firsts l.loop.nexts l.loop.invariant t.loop-test.true s.requires.3 s.requires.1 in
     record { fits = omega (arith, h, l.loop.invariant.first_count, s.requires.2) }
 
 slice-read-nexts : tie.Need-slice-read-nexts invariant-loop decreases-loop
 slice-read-nexts c = let t = c.before.before in
     let l = t.before in
     let s = l.before in
-    let h = section-inside s.args.entries.now s.args.count _ _ l.loop.i l.loop.firsts l.loop.nexts l.loop.invariant t.loop-test.true s.requires.3 s.requires.1 in
-    omega (arith, h, t.loop-test.true, s.requires.1, l.loop.invariant.left, l.loop.invariant.next-count)
+    let h = section_inside s.args.entries.now s.args.count _ _ l.loop.i l.loop.firsts l.loop.nexts l.loop.invariant t.loop-test.true s.requires.3 s.requires.1 in
+    omega (arith, h, t.loop-test.true, s.requires.1, l.loop.invariant.left, l.loop.invariant.next_count)
 
 mul-nexts-2 : tie.Need-overflow-mul-nexts-2 invariant-loop decreases-loop
 mul-nexts-2 c = search rules
@@ -52,20 +52,20 @@ slice-write-nexts : tie.Need-slice-write-nexts invariant-loop decreases-loop
 slice-write-nexts c = let t = c.before.before in
     let l = t.before in
     let s = l.before in
-    omega (arith, s.requires.1, l.loop.invariant.left, l.loop.invariant.next-count)
+    omega (arith, s.requires.1, l.loop.invariant.left, l.loop.invariant.next_count)
 
 mul-firsts : tie.Need-overflow-mul-firsts invariant-loop decreases-loop
 mul-firsts c = let t = c.before.before in
     let l = t.before in
     let s = l.before in
-    let h = section-inside s.args.entries.now s.args.count _ _ l.loop.i l.loop.firsts l.loop.nexts l.loop.invariant t.loop-test.true s.requires.3 s.requires.1 in
+    let h = section_inside s.args.entries.now s.args.count _ _ l.loop.i l.loop.firsts l.loop.nexts l.loop.invariant t.loop-test.true s.requires.3 s.requires.1 in
     record { fits = omega (arith, h, l.loop.invariant.first_count, s.requires.2) }
 
 slice-write-firsts : tie.Need-slice-write-firsts invariant-loop decreases-loop
 slice-write-firsts c = let t = c.before.before in
     let l = t.before in
     let s = l.before in
-    section-inside s.args.entries.now s.args.count _ _ l.loop.i l.loop.firsts l.loop.nexts l.loop.invariant t.loop-test.true s.requires.3 s.requires.1
+    section_inside s.args.entries.now s.args.count _ _ l.loop.i l.loop.firsts l.loop.nexts l.loop.invariant t.loop-test.true s.requires.3 s.requires.1
 
 loop-less : tie.Need-loop-smaller invariant-loop decreases-loop
 loop-less c = omega (arith, c.before.before.loop-test.true)
@@ -74,17 +74,17 @@ loop-again : tie.Need-loop-preserved invariant-loop decreases-loop
 loop-again c = let t = c.before.before in
     let l = t.before in
     let s = l.before in
-    link-step s.args.entries.now s.args.count _ _ l.loop.i l.loop.firsts l.loop.nexts l.loop.invariant t.loop-test.true s.requires.3 s.requires.1
+    link_step s.args.entries.now s.args.count _ _ l.loop.i l.loop.firsts l.loop.nexts l.loop.invariant t.loop-test.true s.requires.3 s.requires.1
 
 same_length : tie.Need-same-length invariant-loop decreases-loop
 same_length c = c.before.loop.invariant.first_count
 
 same-length-2 : tie.Need-same-length-2 invariant-loop decreases-loop
-same-length-2 c = c.before.loop.invariant.next-count
+same-length-2 c = c.before.loop.invariant.next_count
 
 returns : tie.Need-returns invariant-loop decreases-loop
 returns c = let l = c.before in
-    link-end _ _ _ _ l.loop.i l.loop.firsts l.loop.nexts l.loop.invariant (omega (arith, c.loop-test.false))
+    link_end _ _ _ _ l.loop.i l.loop.firsts l.loop.nexts l.loop.invariant (omega (arith, c.loop-test.false))
 
 pub link-spec : {M : Type 1} → statement M
 link-spec =

@@ -1,12 +1,12 @@
 -- `normal_text`: the output buffer, the read call, and then its table's normal text.
 use borrow.Author.Rules.{rules}
-use Rattle.normal_text.proofs.NormalCalls.{no-space, asked, written_out, read-refused}
+use Rattle.normal_text.proofs.NormalCalls.{no_space, asked, written_out, read_refused}
 use Rattle.normal_text.proofs.normal.normal_text.Statement.{statement}
 use Rattle.normal_text.proofs.normal.normal_text.Tie as tie
 
 returns : tie.Need-returns
 returns c = let a = c.before.before.before.before.before.before.args in
-    no-space a.file.now a.text.now a.sections.now a.entries.now a.out.now c.if1.true
+    no_space a.file.now a.text.now a.sections.now a.entries.now a.out.now c.if1.true
 
 read-requires : tie.Need-read-requires
 read-requires c κs = search rules
@@ -58,7 +58,7 @@ returns-3 c = let m = c.before in
     let r = m.before.before.before.before.before.before.before.before in
     let e = r.before.before.before.before in
     let a = e.before.before.before.before.before.before.args in
-    read-refused a.file.now a.text.now a.sections.now a.entries.now r.read.result _ _ _ r.read.ensures _ m.e.given.1 a.out.now e.if1.false
+    read_refused a.file.now a.text.now a.sections.now a.entries.now r.read.result _ _ _ r.read.ensures _ m.e.given.1 a.out.now e.if1.false
 
 pub normal-text-spec : {M : Type 1} → statement M
 normal-text-spec =

@@ -3,7 +3,7 @@ use native.Mathlib.Omega.{arith}
 use mathlib.Core.Path.{◌≡◌}
 use lib.ListN.{length}
 use borrow.Author.Rules.{rules}
-use Rattle.normal_text.proofs.LinkLaws.{no-links}
+use Rattle.normal_text.proofs.LinkLaws.{no_links}
 use Rattle.normal_text.proofs.normal.put_table.Statement.{statement}
 use Rattle.normal_text.proofs.normal.put_table.Tie as tie
 
@@ -15,7 +15,7 @@ slice-aggregate-link-2 c = search rules
 
 link-requires : tie.Need-link-requires
 link-requires c κs = let s = c.before.before.before.before.before.before in
-    (s.requires.1.there, s.requires.4, omega arith, (λ i h. omega (arith, s.requires.2 i h, s.requires.3)), no-links 64 512 _ s.requires.4)
+    (s.requires.1.there, s.requires.4, omega arith, (λ i h. omega (arith, s.requires.2 i h, s.requires.3)), no_links 64 512 _ s.requires.4)
 
 slice-aggregate-put-sections : tie.Need-slice-aggregate-put-sections
 slice-aggregate-put-sections c = search rules

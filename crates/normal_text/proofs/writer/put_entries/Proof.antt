@@ -3,7 +3,7 @@ use Prim.Native.Nat.{◌-◌}
 use native.Mathlib.Omega.{arith}
 use borrow.Author.Rules.{rules}
 use Rattle.normal_text.specs.Steps.{entries_at, Linked}
-use Rattle.normal_text.proofs.SectionPuts.{EntriesPut, entries-start, entry-fits, entry-later, entries-more, entries-length, entries-end}
+use Rattle.normal_text.proofs.SectionPuts.{EntriesPut, entries_start, entry-fits, entry-later, entries_more, entries-length, entries_end}
 use Rattle.normal_text.proofs.writer.put_entries.Statement.{statement}
 use Rattle.normal_text.proofs.writer.put_entries.Tie as tie
 
@@ -22,7 +22,7 @@ shared-slice-read-i c = search rules
 
 loop-holds : tie.Need-loop-init invariant-loop decreases-loop
 loop-holds c = let s = c.before.before.before.before.before.before in
-    (s.requires.3, entries-start _ _ _ _ _ _ s.requires.3 _ _ s.requires.2 s.requires.4)
+    (s.requires.3, entries_start _ _ _ _ _ _ s.requires.3 _ _ s.requires.2 s.requires.4)
 
 mul-put-record : tie.Need-overflow-mul-put-record invariant-loop decreases-loop
 mul-put-record c = let s = c.before.before.before.before.before.before.before.before in
@@ -52,7 +52,7 @@ loop-again c = let p = c.before.before.before in
     let t = p.before.before in
     let l = t.before in
     let i = l.loop.invariant in
-    (i.0, entries-more _ _ _ _ _ _ i.0 _ _ _ _ _ i.1 t.loop-test.true _ _ p.put_record.ensures)
+    (i.0, entries_more _ _ _ _ _ _ i.0 _ _ _ _ _ i.1 t.loop-test.true _ _ p.put_record.ensures)
 
 same_length : tie.Need-same-length invariant-loop decreases-loop
 same_length c = let i = c.before.loop.invariant in
@@ -60,7 +60,7 @@ same_length c = let i = c.before.loop.invariant in
 
 returns : tie.Need-returns invariant-loop decreases-loop
 returns c = let i = c.before.loop.invariant in
-    entries-end _ _ _ _ _ _ i.0 _ _ _ _ _ i.1 c.loop-test.false
+    entries_end _ _ _ _ _ _ i.0 _ _ _ _ _ i.1 c.loop-test.false
 
 pub put-entries-spec : {M : Type 1} → statement M
 put-entries-spec =

@@ -1,7 +1,7 @@
 -- `put_entry` puts the key, =, the value and LF.
 use native.Mathlib.Omega.{arith}
 use lib.ListN.{length-set}
-use Rattle.normal_text.proofs.LinePuts.{entry_length, key-kept, line_kept, line-inside, entry-put}
+use Rattle.normal_text.proofs.LinePuts.{entry_length, key_kept, line_kept, line_inside, entry-put}
 use borrow.Author.Rules.{rules}
 use Rattle.normal_text.proofs.writer.put_entry.Statement.{statement}
 use Rattle.normal_text.proofs.writer.put_entry.Tie as tie
@@ -16,7 +16,7 @@ slice-write-out : tie.Need-slice-write-out
 slice-write-out c = let p = c.before.before in
     let s = p.before.before.before.before.before in
     let l = entry_length s.args.key.now s.args.value.now in
-    let k = key-kept s.args.out.now s.args.at s.args.key.now s.args.value.now _ s.requires p.copy-into.ensures.1 in
+    let k = key_kept s.args.out.now s.args.at s.args.key.now s.args.value.now _ s.requires p.copy-into.ensures.1 in
     omega (arith, k, l, s.requires)
 
 add-put-value : tie.Need-overflow-add-put-value
@@ -26,20 +26,20 @@ put-value-requires : tie.Need-put-value-requires
 put-value-requires c κs = let p = c.before.before.before in
     let s = p.before.before.before.before.before in
     let l = entry_length s.args.key.now s.args.value.now in
-    let k = key-kept s.args.out.now s.args.at s.args.key.now s.args.value.now _ s.requires p.copy-into.ensures.1 in
+    let k = key_kept s.args.out.now s.args.at s.args.key.now s.args.value.now _ s.requires p.copy-into.ensures.1 in
     simp length-set (omega (arith, k, l, s.requires))
 
 slice-write-out-2 : tie.Need-slice-write-out-2
 slice-write-out-2 c = let q = c.before.before in
     let p = q.before.before.before.before in
     let s = p.before.before.before.before.before in
-    omega (arith, line-inside s.args.out.now s.args.at s.args.key.now s.args.value.now _ s.requires p.copy-into.ensures.1 _ _ q.put-value.ensures, line_kept s.args.out.now s.args.at s.args.key.now s.args.value.now _ s.requires p.copy-into.ensures.1 _ _ q.put-value.ensures)
+    omega (arith, line_inside s.args.out.now s.args.at s.args.key.now s.args.value.now _ s.requires p.copy-into.ensures.1 _ _ q.put-value.ensures, line_kept s.args.out.now s.args.at s.args.key.now s.args.value.now _ s.requires p.copy-into.ensures.1 _ _ q.put-value.ensures)
 
 add-result : tie.Need-overflow-add-result
 add-result c = let q = c.before.before in
     let p = q.before.before.before.before in
     let s = p.before.before.before.before.before in
-    omega (arith, line-inside s.args.out.now s.args.at s.args.key.now s.args.value.now _ s.requires p.copy-into.ensures.1 _ _ q.put-value.ensures, line_kept s.args.out.now s.args.at s.args.key.now s.args.value.now _ s.requires p.copy-into.ensures.1 _ _ q.put-value.ensures)
+    omega (arith, line_inside s.args.out.now s.args.at s.args.key.now s.args.value.now _ s.requires p.copy-into.ensures.1 _ _ q.put-value.ensures, line_kept s.args.out.now s.args.at s.args.key.now s.args.value.now _ s.requires p.copy-into.ensures.1 _ _ q.put-value.ensures)
 
 same_length : tie.Need-same-length
 same_length c = let q = c.before.before in

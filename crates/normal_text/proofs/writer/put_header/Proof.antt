@@ -1,7 +1,7 @@
 -- `put_header` puts three bytes and the name.
 use native.Mathlib.Omega.{arith}
 use lib.ListN.{length-set}
-use Rattle.normal_text.proofs.LinePuts.{header-kept, header-put}
+use Rattle.normal_text.proofs.LinePuts.{header_kept, header_put}
 use borrow.Author.Rules.{rules}
 use Rattle.normal_text.proofs.writer.put_header.Statement.{statement}
 use Rattle.normal_text.proofs.writer.put_header.Tie as tie
@@ -24,7 +24,7 @@ add-end-2 c = search rules
 slice-write-out-2 : tie.Need-slice-write-out-2
 slice-write-out-2 c = let p = c.before.before in
     let s = p.before.before.before.before in
-    let k = header-kept s.args.out.now s.args.at s.args.name.now _ s.requires p.copy-into.ensures.1 in
+    let k = header_kept s.args.out.now s.args.at s.args.name.now _ s.requires p.copy-into.ensures.1 in
     omega (arith, k, s.requires)
 
 add-out : tie.Need-overflow-add-out
@@ -33,7 +33,7 @@ add-out c = search rules
 slice-write-out-3 : tie.Need-slice-write-out-3
 slice-write-out-3 c = let p = c.before.before in
     let s = p.before.before.before.before in
-    let k = header-kept s.args.out.now s.args.at s.args.name.now _ s.requires p.copy-into.ensures.1 in
+    let k = header_kept s.args.out.now s.args.at s.args.name.now _ s.requires p.copy-into.ensures.1 in
     simp length-set (omega (arith, k, s.requires))
 
 add-result : tie.Need-overflow-add-result
@@ -42,13 +42,13 @@ add-result c = search rules
 same_length : tie.Need-same-length
 same_length c = let p = c.before.before in
     let s = p.before.before.before.before in
-    let k = header-kept s.args.out.now s.args.at s.args.name.now _ s.requires p.copy-into.ensures.1 in
+    let k = header_kept s.args.out.now s.args.at s.args.name.now _ s.requires p.copy-into.ensures.1 in
     simp length-set k
 
 returns : tie.Need-returns
 returns c = let p = c.before.before in
     let s = p.before.before.before.before in
-    header-put s.args.out.now s.args.at s.args.name.now _ s.requires p.copy-into.ensures.1
+    header_put s.args.out.now s.args.at s.args.name.now _ s.requires p.copy-into.ensures.1
 
 pub put-header-spec : {M : Type 1} → statement M
 put-header-spec =

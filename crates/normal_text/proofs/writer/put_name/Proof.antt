@@ -3,7 +3,7 @@ use native.Mathlib.Omega.{arith}
 use Prim.Native.Nat.{◌+◌}
 use lib.ListN.{get_or}
 use Rattle.normal_text.specs.Steps.{name_at}
-use Rattle.normal_text.proofs.LinePuts.{header-length}
+use Rattle.normal_text.proofs.LinePuts.{header_length}
 use Rattle.normal_text.proofs.Records.{part_cut}
 use borrow.Author.Rules.{rules}
 use Rattle.normal_text.proofs.writer.put_name.Statement.{statement}
@@ -39,7 +39,7 @@ part-put-header-end c = search rules
 put-header-requires : tie.Need-put-header-requires
 put-header-requires c κs = let s = c.before.before.before.before.before.before.before in
     let a = s.args in
-    rw (part_cut a.text.now (get_or a.sections.now a.from 0) (get_or a.sections.now (a.from + 1) 0)) (omega (arith, s.requires.2, header-length (name_at a.text.now a.sections.now a.from)))
+    rw (part_cut a.text.now (get_or a.sections.now a.from 0) (get_or a.sections.now (a.from + 1) 0)) (omega (arith, s.requires.2, header_length (name_at a.text.now a.sections.now a.from)))
 
 same_length : tie.Need-same-length
 same_length c = search rules

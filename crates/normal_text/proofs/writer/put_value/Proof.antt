@@ -1,7 +1,7 @@
 -- `put_value` copies the value, and puts a space behind an odd run.
 use mathlib.Core.Path.{sym, ◌∙◌}
 use native.Mathlib.Omega.{arith}
-use Rattle.normal_text.proofs.LinePuts.{value-space, value-spaced, value-plain}
+use Rattle.normal_text.proofs.LinePuts.{value_space, value-spaced, value-plain}
 use borrow.Author.Rules.{rules}
 use Rattle.normal_text.proofs.writer.put_value.Statement.{statement}
 use Rattle.normal_text.proofs.writer.put_value.Tie as tie
@@ -19,7 +19,7 @@ slice-write-out : tie.Need-slice-write-out
 slice-write-out c = let i = c.before in
     let p = i.before.before.before in
     let s = p.before.before.before.before in
-    omega (arith, value-space s.args.out.now s.args.at s.args.value.now _ s.requires p.copy-into.ensures.1 (sym i.is-continued.ensures ∙ c.if1.true))
+    omega (arith, value_space s.args.out.now s.args.at s.args.value.now _ s.requires p.copy-into.ensures.1 (sym i.is-continued.ensures ∙ c.if1.true))
 
 add-result : tie.Need-overflow-add-result
 add-result c = search rules

@@ -1,24 +1,24 @@
 -- `is_key`: the bytes passed may stand there, so what is left decides.
 use Rattle.std.proofs.Common.{◌≡◌, ◌-◌, ◌≤◌, length, drop, sym, ◌∙◌, arith, drop_of_length-le, rules}
 use borrow.Author.Tests.{not-true, not-false}
-use Rattle.lines.specs.Bytes.{keyByte, all}
+use Rattle.lines.specs.Bytes.{key_byte, all}
 use Rattle.lines.proofs.Slices.{all_here}
-use Rattle.table.specs.LineKinds.{oneOrMore}
-use Rattle.table.proofs.Scans.{some-none, some-all}
+use Rattle.table.specs.LineKinds.{one_or_more}
+use Rattle.table.proofs.Scans.{some_none, some_all}
 use Rattle.table.proofs.kinds.is_key.Statement.{statement}
 use Rattle.table.proofs.kinds.is_key.Tie as tie
 
 abbrev invariant-loop : tie.invariant-loop
-invariant-loop part i₀ i = (i ≤ length part) × (oneOrMore keyByte part ≡ all keyByte (drop i part))
+invariant-loop part i₀ i = (i ≤ length part) × (one_or_more key_byte part ≡ all key_byte (drop i part))
 
 abbrev decreases-loop : tie.decreases-loop
 decreases-loop part i₀ i = length part - i
 
 returns : tie.Need-returns invariant-loop decreases-loop
-returns c = sym (some-none keyByte _ c.if1.true)
+returns c = sym (some_none key_byte _ c.if1.true)
 
 loop-holds : tie.Need-loop-init invariant-loop decreases-loop
-loop-holds c = (omega arith, some-all keyByte _ (omega (arith, c.if1.false)))
+loop-holds c = (omega arith, some_all key_byte _ (omega (arith, c.if1.false)))
 
 shared-slice-read-is-key-byte : tie.Need-shared-slice-read-is-key-byte invariant-loop decreases-loop
 shared-slice-read-is-key-byte c = search rules
@@ -28,7 +28,7 @@ is-key-byte-requires c κs = search rules
 
 returns-2 : tie.Need-returns-2 invariant-loop decreases-loop
 returns-2 c = let l = c.before.before.before.before in
-    let e = all_here l.before.before.before.args.part.now l.loop.i (omega arith) keyByte in
+    let e = all_here l.before.before.before.args.part.now l.loop.i (omega arith) key_byte in
     sym (l.loop.invariant.1 ∙ e ∙ rw (sym c.before.is-key-byte.ensures ∙ not-true _ c.if2.true))
 
 add-i : tie.Need-overflow-add-i invariant-loop decreases-loop
@@ -39,7 +39,7 @@ loop-less c = search rules
 
 loop-again : tie.Need-loop-preserved invariant-loop decreases-loop
 loop-again c = let l = c.before.before.before.before in
-    let e = all_here l.before.before.before.args.part.now l.loop.i (omega arith) keyByte in
+    let e = all_here l.before.before.before.args.part.now l.loop.i (omega arith) key_byte in
     (omega arith, l.loop.invariant.1 ∙ e ∙ rw (sym c.before.is-key-byte.ensures ∙ not-false _ c.if2.false))
 
 returns-3 : tie.Need-returns-3 invariant-loop decreases-loop

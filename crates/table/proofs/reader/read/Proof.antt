@@ -1,17 +1,17 @@
 -- `read`: each refusal in its order, and then the lines.
-use Rattle.table.proofs.ReadCalls.{short-text, short-sections, short-entries, checked-short, file-refused, file-read}
+use Rattle.table.proofs.ReadCalls.{short_text, short_sections, short_entries, checked_short, file_refused, file_read}
 use Rattle.std.proofs.Common.{rules}
 use Rattle.table.proofs.reader.read.Statement.{statement}
 use Rattle.table.proofs.reader.read.Tie as tie
 
 returns : tie.Need-returns
-returns c = short-text _ _ _ _ c.if1.true
+returns c = short_text _ _ _ _ c.if1.true
 
 returns-2 : tie.Need-returns-2
-returns-2 c = short-sections _ _ _ _ c.before.if1.false c.if2.true
+returns-2 c = short_sections _ _ _ _ c.before.if1.false c.if2.true
 
 returns-3 : tie.Need-returns-3
-returns-3 c = short-entries _ _ _ _ c.before.before.if1.false c.before.if2.false c.if3.true
+returns-3 c = short_entries _ _ _ _ c.before.before.if1.false c.before.if2.false c.if3.true
 
 check-file-requires : tie.Need-check-file-requires
 check-file-requires c κs = search rules
@@ -23,7 +23,7 @@ read-apart-requires : tie.Need-read-apart-requires
 read-apart-requires c κs = let t = c.before.before.before in
     let k = t.before.before in
     let z = k.before in
-    (checked-short _ k.check-file.result k.check-file.ensures t.enum_told.given.1, z.before.before.if1.false, z.before.if2.false, z.if3.false)
+    (checked_short _ k.check-file.result k.check-file.ensures t.enum_told.given.1, z.before.before.if1.false, z.before.if2.false, z.if3.false)
 
 enum-known-e : tie.Need-enum-known-e
 enum-known-e c = search rules
@@ -44,7 +44,7 @@ returns-4 c = let p = c.before.before.before.before.before.before in
     let z = k.before in
     let a = z.before.before.before.before.before.before.before.args in
     let w = p.read-apart.new.1 in
-    file-read a.file.now a.text.now a.sections.now a.entries.now z.before.before.if1.false z.before.if2.false z.if3.false
+    file_read a.file.now a.text.now a.sections.now a.entries.now z.before.before.if1.false z.before.if2.false z.if3.false
     k.check-file.result k.check-file.ensures t.enum_told.given.1 p.read-apart.result w.0 w.1.0 w.1.1.0 p.read-apart.ensures
 
 returns-5 : tie.Need-returns-5
@@ -52,7 +52,7 @@ returns-5 c = let e = c.before in
     let k = e.before.before in
     let z = k.before in
     let a = z.before.before.before.before.before.before.before.args in
-    file-refused a.file.now a.text.now a.sections.now a.entries.now z.before.before.if1.false z.before.if2.false z.if3.false
+    file_refused a.file.now a.text.now a.sections.now a.entries.now z.before.before.if1.false z.before.if2.false z.if3.false
     k.check-file.result k.check-file.ensures e.e.given.0.0 e.e.given.1
 
 pub read_spec : {M : Type 1} → statement M

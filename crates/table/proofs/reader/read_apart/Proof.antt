@@ -1,6 +1,6 @@
 -- `read_apart`: a refusal is handed on, and a table that was read is copied.
 use Rattle.std.proofs.Common.{◌≡◌, ◌-◌, length, arith, rules}
-use Rattle.table.proofs.ReadCalls.{all_known, apart-refused, counts-fit, apart-copied}
+use Rattle.table.proofs.ReadCalls.{all_known, apart_refused, counts_fit, apart_copied}
 use Rattle.table.proofs.reader.read_apart.Statement.{statement}
 use Rattle.table.proofs.reader.read_apart.Tie as tie
 
@@ -27,7 +27,7 @@ returns c = let i = c.before.before.before.before.before in
     let s = i.before.before.before.before.before.before.before.before in
     let r = i.read-lines in
     let w = r.new.1 in
-    apart-refused _ _ w.0 _ w.1.0 _ w.1.1.0 r.result r.ensures _ c.enum_told.given.1 s.args.text.now s.args.sections.now s.args.entries.now
+    apart_refused _ _ w.0 _ w.1.0 _ w.1.1.0 r.result r.ensures _ c.enum_told.given.1 s.args.text.now s.args.sections.now s.args.entries.now
 
 sub-copy-into : tie.Need-overflow-sub-copy-into
 sub-copy-into c = search rules
@@ -43,7 +43,7 @@ part-copy-into-end c = let a = c.before.before in
     let w = r.new.1 in
     let g = a.answer.given in
     let h = all_known _ _ w.0 _ w.1.0 _ w.1.1.0 r.result r.ensures g.0.0 g.0.1.0 g.0.1.1.0 g.1 in
-    let f = counts-fit _ _ _ _ _ _ _ _ _ _ h in
+    let f = counts_fit _ _ _ _ _ _ _ _ _ _ h in
     let k : length w.0 ≡ 65535 = search rules in
     omega (arith, k, f.0)
 
@@ -58,7 +58,7 @@ mul-copy-numbers-into c = let a = c.before.before.before.before.before.before.be
     let w = r.new.1 in
     let g = a.answer.given in
     let h = all_known _ _ w.0 _ w.1.0 _ w.1.1.0 r.result r.ensures g.0.0 g.0.1.0 g.0.1.1.0 g.1 in
-    let f = counts-fit _ _ _ _ _ _ _ _ _ _ h in
+    let f = counts_fit _ _ _ _ _ _ _ _ _ _ h in
     record { fits = omega (arith, f.1) }
 
 sub-copy-numbers-into : tie.Need-overflow-sub-copy-numbers-into
@@ -75,7 +75,7 @@ part-copy-numbers-into-end c = let a = c.before.before.before.before.before.befo
     let w = r.new.1 in
     let g = a.answer.given in
     let h = all_known _ _ w.0 _ w.1.0 _ w.1.1.0 r.result r.ensures g.0.0 g.0.1.0 g.0.1.1.0 g.1 in
-    let f = counts-fit _ _ _ _ _ _ _ _ _ _ h in
+    let f = counts_fit _ _ _ _ _ _ _ _ _ _ h in
     let k : length w.1.0 ≡ 128 = search rules in
     omega (arith, k, f.1)
 
@@ -90,7 +90,7 @@ mul-copy-numbers-into-2 c = let a = c.before.before.before.before.before.before.
     let w = r.new.1 in
     let g = a.answer.given in
     let h = all_known _ _ w.0 _ w.1.0 _ w.1.1.0 r.result r.ensures g.0.0 g.0.1.0 g.0.1.1.0 g.1 in
-    let f = counts-fit _ _ _ _ _ _ _ _ _ _ h in
+    let f = counts_fit _ _ _ _ _ _ _ _ _ _ h in
     record { fits = omega (arith, f.2) }
 
 sub-copy-numbers-into-2 : tie.Need-overflow-sub-copy-numbers-into-2
@@ -107,7 +107,7 @@ part-copy-numbers-into-end-2 c = let a = c.before.before.before.before.before.be
     let w = r.new.1 in
     let g = a.answer.given in
     let h = all_known _ _ w.0 _ w.1.0 _ w.1.1.0 r.result r.ensures g.0.0 g.0.1.0 g.0.1.1.0 g.1 in
-    let f = counts-fit _ _ _ _ _ _ _ _ _ _ h in
+    let f = counts_fit _ _ _ _ _ _ _ _ _ _ h in
     let k : length w.1.1.0 ≡ 2560 = search rules in
     omega (arith, k, f.2)
 
@@ -131,8 +131,8 @@ returns-2 c = let a = c.before.before.before.before.before.before.before.before.
     let w = r.new.1 in
     let g = a.answer.given in
     let h = all_known _ _ w.0 _ w.1.0 _ w.1.1.0 r.result r.ensures g.0.0 g.0.1.0 g.0.1.1.0 g.1 in
-    let f = counts-fit _ _ _ _ _ _ _ _ _ _ h in
-    apart-copied _ _ w.0 _ w.1.0 _ w.1.1.0 _ _ _ h s.args.text.now _ s.args.sections.now _ s.args.entries.now _ s.requires.1 s.requires.2 s.requires.3
+    let f = counts_fit _ _ _ _ _ _ _ _ _ _ h in
+    apart_copied _ _ w.0 _ w.1.0 _ w.1.1.0 _ _ _ h s.args.text.now _ s.args.sections.now _ s.args.entries.now _ s.requires.1 s.requires.2 s.requires.3
     c.before.before.before.before.before.before.before.before.before.before.before.before.before.before.copy-into.ensures.1
     c.before.before.before.before.before.before.before.before.copy-numbers-into.ensures.1
     c.before.before.copy-numbers-into2.ensures.1

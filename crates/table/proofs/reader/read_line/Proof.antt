@@ -1,6 +1,6 @@
 -- `read_line`: the next line goes into the table or is refused; or no line is left.
 use Rattle.std.proofs.Common.{◌≡◌, length, arith, rules}
-use Rattle.table.proofs.ReadingLines.{found-known, end_known, long-known, part-fits, line-goes, line-stops, no_line, long-line}
+use Rattle.table.proofs.ReadingLines.{found_known, end_known, long_known, part-fits, line_goes, line_stops, no_line, long_line}
 use Rattle.table.proofs.reader.read_line.Statement.{statement}
 use Rattle.table.proofs.reader.read_line.Tie as tie
 
@@ -23,7 +23,7 @@ part-add-line-end c = let l = c.before.before in
     let a = s.args in
     let b = n.next-line.new.1.1.0 in
     let g = l.length.given in
-    let h = found-known a.file.now a.progress.cursor a.line.now b n.next-line.result n.next-line.ensures g.0.0 g.0.1.0 g.0.1.1.0 g.1 in
+    let h = found_known a.file.now a.progress.cursor a.line.now b n.next-line.result n.next-line.ensures g.0.0 g.0.1.0 g.0.1.1.0 g.1 in
     let k : length b ≡ length a.line.now = search rules in
     omega (arith, k, h.fits, s.requires.0)
 
@@ -34,7 +34,7 @@ add-line-requires c κs = let l = c.before.before.before.before.before.before.be
     let a = s.args in
     let b = n.next-line.new.1.1.0 in
     let g = l.length.given in
-    let h = found-known a.file.now a.progress.cursor a.line.now b n.next-line.result n.next-line.ensures g.0.0 g.0.1.0 g.0.1.1.0 g.1 in
+    let h = found_known a.file.now a.progress.cursor a.line.now b n.next-line.result n.next-line.ensures g.0.0 g.0.1.0 g.0.1.1.0 g.1 in
     let k = part-fits _ _ _ _ _ _ _ h a.progress.state.text (length a.text.now) s.requires.1 s.requires.2 in
     (k, s.requires.3, s.requires.4, s.requires.5, s.requires.6)
 
@@ -74,9 +74,9 @@ returns c = let v = c.before in
     let a = s.args in
     let b = n.next-line.new.1.1.0 in
     let g = l.length.given in
-    let h = found-known a.file.now a.progress.cursor a.line.now b n.next-line.result n.next-line.ensures g.0.0 g.0.1.0 g.0.1.1.0 g.1 in
+    let h = found_known a.file.now a.progress.cursor a.line.now b n.next-line.result n.next-line.ensures g.0.0 g.0.1.0 g.0.1.1.0 g.1 in
     let w = j.add-line.new.1.1.1 in
-    line-goes a.file.now a.progress a.text.now a.sections.now a.entries.now a.line.now b g.0.0 g.0.1.0 g.0.1.1.0 h
+    line_goes a.file.now a.progress a.text.now a.sections.now a.entries.now a.line.now b g.0.0 g.0.1.0 g.0.1.1.0 h
     j.add-line.result w.0 w.1.0 w.1.1.0 j.add-line.ensures v.state.given.0.0 v.state.given.1
 
 same-length-6 : tie.Need-same-length-6
@@ -103,9 +103,9 @@ returns-2 c = let v = c.before in
     let a = s.args in
     let b = n.next-line.new.1.1.0 in
     let g = l.length.given in
-    let h = found-known a.file.now a.progress.cursor a.line.now b n.next-line.result n.next-line.ensures g.0.0 g.0.1.0 g.0.1.1.0 g.1 in
+    let h = found_known a.file.now a.progress.cursor a.line.now b n.next-line.result n.next-line.ensures g.0.0 g.0.1.0 g.0.1.1.0 g.1 in
     let w = j.add-line.new.1.1.1 in
-    line-stops a.file.now a.progress a.text.now a.sections.now a.entries.now a.line.now b g.0.0 g.0.1.0 g.0.1.1.0 h
+    line_stops a.file.now a.progress a.text.now a.sections.now a.entries.now a.line.now b g.0.0 g.0.1.0 g.0.1.1.0 h
     j.add-line.result w.0 w.1.0 w.1.1.0 j.add-line.ensures v.e.given.0.0 v.e.given.1
 
 same-length-11 : tie.Need-same-length-11
@@ -128,8 +128,8 @@ returns-4 c = let l = c.before in
     let s = n.before.before.before.before.before.before.before.before in
     let a = s.args in
     let b = n.next-line.new.1.1.0 in
-    long-line a.file.now a.progress a.text.now a.sections.now a.entries.now a.line.now b l.e2.given.0.0
-    (long-known a.file.now a.progress.cursor a.line.now b n.next-line.result n.next-line.ensures l.e2.given.0.0 s.requires.0 l.e2.given.1)
+    long_line a.file.now a.progress a.text.now a.sections.now a.entries.now a.line.now b l.e2.given.0.0
+    (long_known a.file.now a.progress.cursor a.line.now b n.next-line.result n.next-line.ensures l.e2.given.0.0 s.requires.0 l.e2.given.1)
 
 pub read-line-spec : {M : Type 1} → statement M
 read-line-spec =

@@ -1,6 +1,6 @@
 -- `read_lines`: the loop keeps `Reading`; each turn is one of `read_line`.
 use Rattle.std.proofs.Common.{◌≡◌, ◌-◌, length, arith, rules}
-use Rattle.table.proofs.ReadingAll.{Reading, reading-start, text-below, sections-below, line_read, reading-more, reading-end, reading-refused}
+use Rattle.table.proofs.ReadingAll.{Reading, reading_start, text_below, sections_below, line_read, reading_more, reading_end, reading_refused}
 use Rattle.table.proofs.reader.read_lines.Statement.{statement}
 use Rattle.table.proofs.reader.read_lines.Tie as tie
 
@@ -17,7 +17,7 @@ new-requires : tie.Need-new-requires invariant-loop decreases-loop
 new-requires c κs = search rules
 
 loop-holds : tie.Need-loop-init invariant-loop decreases-loop
-loop-holds c = (reading-start _ _ _ _ _ _ c.before.first.ensures c.new.ensures, search rules, search rules)
+loop-holds c = (reading_start _ _ _ _ _ _ c.before.first.ensures c.new.ensures, search rules, search rules)
 
 slice-aggregate-read-line : tie.Need-slice-aggregate-read-line invariant-loop decreases-loop
 slice-aggregate-read-line c = search rules
@@ -29,7 +29,7 @@ read-line-requires : tie.Need-read-line-requires invariant-loop decreases-loop
 read-line-requires c κs = let l = c.before.before.before.before.before in
     let s = l.before.before.before.before.before.before.before in
     let i = l.loop.invariant.0 in
-    (omega (arith, l.loop.invariant.1), text-below _ _ _ _ _ _ _ _ i, omega (arith, s.requires.0, s.requires.1, i.same_text), sections-below _ _ _ _ _ _ _ _ i, omega (arith, s.requires.2, i.same-sections), omega (arith, s.requires.3, i.same_entries), omega (arith, l.loop.invariant.2))
+    (omega (arith, l.loop.invariant.1), text_below _ _ _ _ _ _ _ _ i, omega (arith, s.requires.0, s.requires.1, i.same_text), sections_below _ _ _ _ _ _ _ _ i, omega (arith, s.requires.2, i.same_sections), omega (arith, s.requires.3, i.same_entries), omega (arith, l.loop.invariant.2))
 
 enum-known-next : tie.Need-enum-known-next invariant-loop decreases-loop
 enum-known-next c = search rules
@@ -54,7 +54,7 @@ loop-again c = let j = c.before.before.before.before.before.before.before.before
     let k = j.read-line.ensures l.loop.invariant.0.table a.text.now a.sections.now a.entries.now l.loop.invariant.0.holds in
     let q = c.before.next.given in
     let m = c.before.before.before.before.before.entries.given in
-    (reading-more a.file.now a.text.now a.sections.now a.entries.now l.loop.text l.loop.sections l.loop.entries l.loop.progress l.loop.invariant.0 w.0 w.1.0 w.1.1.0 j.read-line.result k q.0.0 q.1 (search rules) (search rules) (search (rules, m)), search rules, search rules)
+    (reading_more a.file.now a.text.now a.sections.now a.entries.now l.loop.text l.loop.sections l.loop.entries l.loop.progress l.loop.invariant.0 w.0 w.1.0 w.1.1.0 j.read-line.result k q.0.0 q.1 (search rules) (search rules) (search (rules, m)), search rules, search rules)
 
 enum_told : tie.Need-enum-told invariant-loop decreases-loop
 enum_told c = search rules
@@ -79,7 +79,7 @@ returns c = let e = c.before in
     let a = s.args in
     let w = j.read-line.new.1.1.1 in
     let k = j.read-line.ensures l.loop.invariant.0.table a.text.now a.sections.now a.entries.now l.loop.invariant.0.holds in
-    reading-end a.file.now a.text.now a.sections.now a.entries.now l.loop.text l.loop.sections l.loop.entries l.loop.progress l.loop.invariant.0 w.0 w.1.0 w.1.1.0 j.read-line.result k e.enum_told.given.1 s.requires.0 c.accepted.result c.accepted.ensures
+    reading_end a.file.now a.text.now a.sections.now a.entries.now l.loop.text l.loop.sections l.loop.entries l.loop.progress l.loop.invariant.0 w.0 w.1.0 w.1.1.0 j.read-line.result k e.enum_told.given.1 s.requires.0 c.accepted.result c.accepted.ensures
 
 enum-known-e : tie.Need-enum-known-e invariant-loop decreases-loop
 enum-known-e c = search rules
@@ -101,7 +101,7 @@ returns-2 c = let e = c.before in
     let a = s.args in
     let w = j.read-line.new.1.1.1 in
     let k = j.read-line.ensures l.loop.invariant.0.table a.text.now a.sections.now a.entries.now l.loop.invariant.0.holds in
-    reading-refused a.file.now a.text.now a.sections.now a.entries.now l.loop.text l.loop.sections l.loop.entries l.loop.progress l.loop.invariant.0 w.0 w.1.0 w.1.1.0 j.read-line.result k e.e.given.0.0 e.e.given.1
+    reading_refused a.file.now a.text.now a.sections.now a.entries.now l.loop.text l.loop.sections l.loop.entries l.loop.progress l.loop.invariant.0 w.0 w.1.0 w.1.1.0 j.read-line.result k e.e.given.0.0 e.e.given.1
 
 pub read-lines-spec : {M : Type 1} → statement M
 read-lines-spec =

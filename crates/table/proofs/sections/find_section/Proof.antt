@@ -1,6 +1,6 @@
 -- `find_section`: the guess is the name, or all are looked at.
 use Rattle.std.proofs.Common.{sym, ◌∙◌, arith, rules}
-use Rattle.table.proofs.Search.{found-pair}
+use Rattle.table.proofs.Search.{found_pair}
 use Rattle.table.proofs.sections.find_section.Statement.{statement}
 use Rattle.table.proofs.sections.find_section.Tie as tie
 
@@ -29,7 +29,7 @@ is-named-requires : tie.Need-is-named-requires
 is-named-requires c κs = search rules
 
 returns : tie.Need-returns
-returns c = found-pair _ _ _ _ _ (omega arith) (sym c.before.is-named.ensures ∙ c.if2.true)
+returns c = found_pair _ _ _ _ _ (omega arith) (sym c.before.is-named.ensures ∙ c.if2.true)
 
 search-sections-requires : tie.Need-search-sections-requires
 search-sections-requires c κs = search rules

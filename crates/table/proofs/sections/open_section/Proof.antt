@@ -1,5 +1,5 @@
 -- `open_section`: a name seen before, one too many, or a new one.
-use Rattle.table.proofs.Taking.{header-known, header-many, header-new}
+use Rattle.table.proofs.Taking.{header_known, header_many, header_new}
 use Rattle.std.proofs.Common.{rules}
 use Rattle.table.proofs.sections.open_section.Statement.{statement}
 use Rattle.table.proofs.sections.open_section.Tie as tie
@@ -23,7 +23,7 @@ same-length-3 : tie.Need-same-length-3
 same-length-3 c = search rules
 
 returns : tie.Need-returns
-returns c = let f = c.before in header-known _ _ _ _ _ f.find-section.result f.find-section.ensures c.if1.true
+returns c = let f = c.before in header_known _ _ _ _ _ f.find-section.result f.find-section.ensures c.if1.true
 
 same-length-4 : tie.Need-same-length-4
 same-length-4 c = search rules
@@ -35,7 +35,7 @@ same-length-6 : tie.Need-same-length-6
 same-length-6 c = search rules
 
 returns-2 : tie.Need-returns-2
-returns-2 c = let f = c.before.before in header-many _ _ _ _ _ f.find-section.result f.find-section.ensures c.before.if1.false c.if2.true
+returns-2 c = let f = c.before.before in header_many _ _ _ _ _ f.find-section.result f.find-section.ensures c.before.if1.false c.if2.true
 
 put-in-order-requires : tie.Need-put-in-order-requires
 put-in-order-requires c κs = search rules
@@ -56,7 +56,7 @@ returns-3 : tie.Need-returns-3
 returns-3 c = let p = c.before.before.before.before in
     let e = p.before.before.before.before.before.before.before.before.before in
     let f = e.before.before in
-    header-new _ _ _ _ _ f.find-section.result f.find-section.ensures e.before.if1.false e.if2.false p.put-section.result _ _ p.put-section.ensures
+    header_new _ _ _ _ _ f.find-section.result f.find-section.ensures e.before.if1.false e.if2.false p.put-section.result _ _ p.put-section.ensures
 
 pub open-section-spec : {M : Type 1} → statement M
 open-section-spec =

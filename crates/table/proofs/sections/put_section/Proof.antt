@@ -50,8 +50,8 @@ returns c = let k = c.before.before in
     let a = s.args in
     record {
       state = refl;
-      text-put = copied a.text.now _ a.name.now a.state.text s.requires.0 k.copy-into.ensures.1;
-      numbers-put = store_two a.sections.now (a.state.text ∷ length a.name.now ∷ []) (2 * a.state.sections) (omega (arith, s.requires.1)) (omega arith);
+      text_put = copied a.text.now _ a.name.now a.state.text s.requires.0 k.copy-into.ensures.1;
+      numbers_put = store_two a.sections.now (a.state.text ∷ length a.name.now ∷ []) (2 * a.state.sections) (omega (arith, s.requires.1)) (omega arith);
     }
 
 pub put-section-spec : {M : Type 1} → statement M

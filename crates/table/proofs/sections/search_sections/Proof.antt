@@ -1,6 +1,6 @@
 -- `search_sections`: none of the pairs passed is the name.
 use Rattle.std.proofs.Common.{◌-◌, sym, ◌∙◌, arith, rules}
-use Rattle.table.proofs.Search.{Looking, looking-start, found-pair, looking-more, looking-over}
+use Rattle.table.proofs.Search.{Looking, looking_start, found_pair, looking_more, looking_over}
 use Rattle.table.proofs.sections.search_sections.Statement.{statement}
 use Rattle.table.proofs.sections.search_sections.Tie as tie
 
@@ -11,7 +11,7 @@ abbrev decreases-loop : tie.decreases-loop
 decreases-loop name text sections count i₀ i = count - i
 
 loop-holds : tie.Need-loop-init invariant-loop decreases-loop
-loop-holds c = looking-start _ _ _ _
+loop-holds c = looking_start _ _ _ _
 
 mul-is-named : tie.Need-overflow-mul-is-named invariant-loop decreases-loop
 mul-is-named c = search rules
@@ -39,7 +39,7 @@ is-named-requires c κs = search rules
 
 returns : tie.Need-returns invariant-loop decreases-loop
 returns c = let l = c.before.before.before.before.before in
-    found-pair _ _ _ _ l.loop.i (omega arith) (sym c.before.is-named.ensures ∙ c.if1.true)
+    found_pair _ _ _ _ l.loop.i (omega arith) (sym c.before.is-named.ensures ∙ c.if1.true)
 
 add-i : tie.Need-overflow-add-i invariant-loop decreases-loop
 add-i c = search rules
@@ -49,10 +49,10 @@ loop-less c = search rules
 
 loop-again : tie.Need-loop-preserved invariant-loop decreases-loop
 loop-again c = let l = c.before.before.before.before.before in
-    looking-more _ _ _ _ l.loop.i l.loop.invariant (omega arith) l.before.before.before.before.requires (sym c.before.is-named.ensures ∙ c.if1.false)
+    looking_more _ _ _ _ l.loop.i l.loop.invariant (omega arith) l.before.before.before.before.requires (sym c.before.is-named.ensures ∙ c.if1.false)
 
 returns-2 : tie.Need-returns-2 invariant-loop decreases-loop
-returns-2 c = looking-over _ _ _ _ _ c.before.loop.invariant (omega arith)
+returns-2 c = looking_over _ _ _ _ _ c.before.loop.invariant (omega arith)
 
 pub search-sections-spec : {M : Type 1} → statement M
 search-sections-spec =

@@ -1,14 +1,14 @@
 -- `add_entry`: before any header, one too many, or a new one.
 use Rattle.std.proofs.Common.{arith, rules}
-use Rattle.table.proofs.Taking.{entry-outside, entry-many, entry_new}
+use Rattle.table.proofs.Taking.{entry_outside, entry_many, entry_new}
 use Rattle.table.proofs.steps.add_entry.Statement.{statement}
 use Rattle.table.proofs.steps.add_entry.Tie as tie
 
 returns : tie.Need-returns
-returns c = entry-outside _ _ _ _ _ _ c.if1.true
+returns c = entry_outside _ _ _ _ _ _ c.if1.true
 
 returns-2 : tie.Need-returns-2
-returns-2 c = entry-many _ _ _ _ _ _ c.before.before.if1.false c.if2.true
+returns-2 c = entry_many _ _ _ _ _ _ c.before.before.if1.false c.if2.true
 
 sub-put-entry : tie.Need-overflow-sub-put-entry
 sub-put-entry c = search rules

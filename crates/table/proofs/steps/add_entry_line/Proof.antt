@@ -1,7 +1,7 @@
 -- `add_entry_line`: no =, a bad key, or the key and the value.
 use Rattle.std.proofs.Common.{sym, ◌∙◌, arith, rules}
 use borrow.Author.Tests.{not-true, not-false}
-use Rattle.table.proofs.TakingLines.{sign-missing, parts-fit, key-bad, key-good}
+use Rattle.table.proofs.TakingLines.{sign_missing, parts_fit, key_bad, key_good}
 use Rattle.table.proofs.steps.add_entry_line.Statement.{statement}
 use Rattle.table.proofs.steps.add_entry_line.Tie as tie
 
@@ -9,7 +9,7 @@ offset-of-requires : tie.Need-offset-of-requires
 offset-of-requires c κs = search rules
 
 returns : tie.Need-returns
-returns c = sign-missing _ _ c.before.offset-of.ensures c.if1.true _ _ _ _
+returns c = sign_missing _ _ c.before.offset-of.ensures c.if1.true _ _ _ _
 
 sub-trim-end : tie.Need-overflow-sub-trim-end
 sub-trim-end c = search rules
@@ -47,7 +47,7 @@ returns-2 c = let i = c.before in
     let k = v.before.before in
     let e = k.before.before in
     let f = e.before in
-    key-bad _ _ f.offset-of.ensures e.if1.false _ _ k.trim-end.ensures v.trim_start.ensures _ _ _ _ (sym i.is_key.ensures ∙ not-true _ c.if2.true)
+    key_bad _ _ f.offset-of.ensures e.if1.false _ _ k.trim-end.ensures v.trim_start.ensures _ _ _ _ (sym i.is_key.ensures ∙ not-true _ c.if2.true)
 
 add-entry-requires : tie.Need-add-entry-requires
 add-entry-requires c κs = let j = c.before.before in
@@ -56,7 +56,7 @@ add-entry-requires c κs = let j = c.before.before in
     let e = k.before.before in
     let f = e.before in
     let s = f.before.before.before.before in
-    let h = parts-fit _ _ f.offset-of.ensures e.if1.false _ _ k.trim-end.ensures v.trim_start.ensures in
+    let h = parts_fit _ _ f.offset-of.ensures e.if1.false _ _ k.trim-end.ensures v.trim_start.ensures in
     (omega (arith, h, s.requires.0), s.requires.1)
 
 same_length : tie.Need-same-length
@@ -73,7 +73,7 @@ returns-3 c = let p = c.before.before.before.before in
     let k = v.before.before in
     let e = k.before.before in
     let f = e.before in
-    key-good _ _ f.offset-of.ensures e.if1.false _ _ k.trim-end.ensures v.trim_start.ensures _ _ _ _ (sym i.is_key.ensures ∙ not-false _ j.if2.false) p.add-entry.result _ _ p.add-entry.ensures
+    key_good _ _ f.offset-of.ensures e.if1.false _ _ k.trim-end.ensures v.trim_start.ensures _ _ _ _ (sym i.is_key.ensures ∙ not-false _ j.if2.false) p.add-entry.result _ _ p.add-entry.ensures
 
 pub add-entry-line-spec : {M : Type 1} → statement M
 add-entry-line-spec =

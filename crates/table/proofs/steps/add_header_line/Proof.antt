@@ -1,8 +1,8 @@
 -- `add_header_line`: a bad header, or its name.
 use Rattle.std.proofs.Common.{sym, ◌∙◌, rules}
 use borrow.Author.Tests.{not-true, not-false}
-use Rattle.table.proofs.Scans.{header-some}
-use Rattle.table.proofs.TakingLines.{header-bad, header-good}
+use Rattle.table.proofs.Scans.{header_some}
+use Rattle.table.proofs.TakingLines.{header_bad, header_good}
 use Rattle.table.proofs.steps.add_header_line.Statement.{statement}
 use Rattle.table.proofs.steps.add_header_line.Tie as tie
 
@@ -10,10 +10,10 @@ is-header-requires : tie.Need-is-header-requires
 is-header-requires c κs = search rules
 
 returns : tie.Need-returns
-returns c = header-bad _ _ _ _ _ (sym c.before.is-header.ensures ∙ not-true _ c.if1.true)
+returns c = header_bad _ _ _ _ _ (sym c.before.is-header.ensures ∙ not-true _ c.if1.true)
 
 sub-open-section : tie.Need-overflow-sub-open-section
-sub-open-section c = header-some _ (sym c.before.is-header.ensures ∙ not-false _ c.if1.false)
+sub-open-section c = header_some _ (sym c.before.is-header.ensures ∙ not-false _ c.if1.false)
 
 sub-open-section-2 : tie.Need-overflow-sub-open-section-2
 sub-open-section-2 c = search rules
@@ -39,7 +39,7 @@ same-length-3 c = search rules
 returns-2 : tie.Need-returns-2
 returns-2 c = let p = c.before.before.before.before.before.before in
     let e = p.before.before.before.before.before in
-    header-good _ _ _ _ _ (sym e.before.is-header.ensures ∙ not-false _ e.if1.false) p.open-section.result _ _ p.open-section.ensures
+    header_good _ _ _ _ _ (sym e.before.is-header.ensures ∙ not-false _ e.if1.false) p.open-section.result _ _ p.open-section.ensures
 
 pub add-header-line-spec : {M : Type 1} → statement M
 add-header-line-spec =

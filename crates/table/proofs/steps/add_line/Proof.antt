@@ -2,7 +2,7 @@
 use Rattle.std.proofs.Common.{◌-◌, length, arith, rules}
 use Rattle.lines.specs.Trim.{trimmed}
 use Rattle.table.specs.declared.state.Step.TheVariants.{Go}
-use Rattle.table.proofs.TakingLines.{line-empty, line-header, line-entry, for-trimmed, trimmed-fits, rest-fits}
+use Rattle.table.proofs.TakingLines.{line_empty, line_header, line_entry, for_trimmed, trimmed-fits, rest_fits}
 use Rattle.table.proofs.steps.add_line.Statement.{statement}
 use Rattle.table.proofs.steps.add_line.Tie as tie
 
@@ -15,8 +15,8 @@ returns c = let t = c.before in
     let a = s.args in
     let m = t.trim.result.now in
     let l = trimmed a.line.now in
-    for-trimmed m l a.number a.state a.text.now a.sections.now a.entries.now (Go a.state) a.text.now a.sections.now a.entries.now
-    t.trim.ensures (line-empty m a.number a.state a.text.now a.sections.now a.entries.now c.if1.true)
+    for_trimmed m l a.number a.state a.text.now a.sections.now a.entries.now (Go a.state) a.text.now a.sections.now a.entries.now
+    t.trim.ensures (line_empty m a.number a.state a.text.now a.sections.now a.entries.now c.if1.true)
 
 shared-slice-read-if2 : tie.Need-shared-slice-read-if2
 shared-slice-read-if2 c = search rules
@@ -37,7 +37,7 @@ add-header-line-requires c κs = let g = c.before.before.before.before in
     let a = s.args in
     let m = t.trim.result.now in
     let l = trimmed a.line.now in
-    (rest-fits m a.line.now a.state.text (length a.text.now) t.trim.ensures s.requires.0, s.requires.1, s.requires.2, s.requires.4)
+    (rest_fits m a.line.now a.state.text (length a.text.now) t.trim.ensures s.requires.0, s.requires.1, s.requires.2, s.requires.4)
 
 same_length : tie.Need-same-length
 same_length c = search rules
@@ -59,8 +59,8 @@ returns-2 c = let p = c.before.before.before.before.before.before in
     let l = trimmed a.line.now in
     let text' = p.add-header-line.new.1.1.1.0 in
     let sections' = p.add-header-line.new.1.1.1.1.0 in
-    for-trimmed m l a.number a.state a.text.now a.sections.now a.entries.now p.add-header-line.result text' sections' a.entries.now
-    t.trim.ensures (line-header m a.number a.state a.text.now a.sections.now a.entries.now (omega (arith, e.if1.false)) g.if2.true p.add-header-line.result text' sections' p.add-header-line.ensures)
+    for_trimmed m l a.number a.state a.text.now a.sections.now a.entries.now p.add-header-line.result text' sections' a.entries.now
+    t.trim.ensures (line_header m a.number a.state a.text.now a.sections.now a.entries.now (omega (arith, e.if1.false)) g.if2.true p.add-header-line.result text' sections' p.add-header-line.ensures)
 
 add-entry-line-requires : tie.Need-add-entry-line-requires
 add-entry-line-requires c κs = let g = c.before.before in
@@ -88,8 +88,8 @@ returns-3 c = let p = c.before.before.before.before in
     let l = trimmed a.line.now in
     let text' = p.add-entry-line.new.1.1.1.0 in
     let entries' = p.add-entry-line.new.1.1.1.1.0 in
-    for-trimmed m l a.number a.state a.text.now a.sections.now a.entries.now p.add-entry-line.result text' a.sections.now entries'
-    t.trim.ensures (line-entry m a.number a.state a.text.now a.sections.now a.entries.now (omega (arith, e.if1.false)) g.if2.false p.add-entry-line.result text' entries' p.add-entry-line.ensures)
+    for_trimmed m l a.number a.state a.text.now a.sections.now a.entries.now p.add-entry-line.result text' a.sections.now entries'
+    t.trim.ensures (line_entry m a.number a.state a.text.now a.sections.now a.entries.now (omega (arith, e.if1.false)) g.if2.false p.add-entry-line.result text' entries' p.add-entry-line.ensures)
 
 pub add-line-spec : {M : Type 1} → statement M
 add-line-spec =

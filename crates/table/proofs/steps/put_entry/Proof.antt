@@ -44,9 +44,9 @@ returns c = let r = c.before.before in
     let e : b ≡ put a.text.now a.state.text a.key.now = copied a.text.now b a.key.now a.state.text h k.copy-into.ensures.1 in
     record {
       state = refl;
-      text-put = copied b _ a.value.now (a.state.text + length a.key.now) (omega (arith, l, s.requires.0)) m.copy-into2.ensures.1
+      text_put = copied b _ a.value.now (a.state.text + length a.key.now) (omega (arith, l, s.requires.0)) m.copy-into2.ensures.1
           ∙ ap (λ (z : List ℕ). put z (a.state.text + length a.key.now) a.value.now) e;
-      numbers-put = r.put_record.ensures;
+      numbers_put = r.put_record.ensures;
     }
 
 pub put-entry-spec : {M : Type 1} → statement M

@@ -1,6 +1,6 @@
 -- `put_record`: the five numbers stand one after another.
 use Rattle.std.proofs.Common.{◌+◌, [], ◌∷◌, arith, length-set, rules}
-use Rattle.lines.proofs.Stores.{store-five}
+use Rattle.lines.proofs.Stores.{store_five}
 use Rattle.table.proofs.steps.put_record.Statement.{statement}
 use Rattle.table.proofs.steps.put_record.Tie as tie
 
@@ -53,7 +53,7 @@ same_length : tie.Need-same-length
 same_length c = search rules
 
 returns : tie.Need-returns
-returns c = let a = c.args in store-five a.entries.now (a.section ∷ a.start ∷ a.key-length ∷ (a.start + a.key-length) ∷ a.value-length ∷ []) a.at (omega (arith, c.requires.0)) (omega arith)
+returns c = let a = c.args in store_five a.entries.now (a.section ∷ a.start ∷ a.key-length ∷ (a.start + a.key-length) ∷ a.value-length ∷ []) a.at (omega (arith, c.requires.0)) (omega arith)
 
 pub put-record-spec : {M : Type 1} → statement M
 put-record-spec =

@@ -2,7 +2,7 @@
 use mathlib.Core.Path.{◌≡◌, sym, ◌∙◌}
 use mathlib.Core.Bool.{false}
 use borrow.Author.Rules.{rules}
-use Rattle.values.specs.Booleans.{trueWords, falseWords, among, booleanOf}
+use Rattle.values.specs.Booleans.{true_words, false_words, among, boolean_of}
 use Rattle.values.proofs.booleans.boolean.Statement.{statement}
 use Rattle.values.proofs.booleans.boolean.Tie as tie
 
@@ -23,11 +23,11 @@ is-among-requires c κs = search rules
 
 -- the four words are those for true
 asks-true : (c : tie.After-is-among)
-    → c.is_among.result ≡ among trueWords c.before.before.before.before.before.before.args.text.now
+    → c.is_among.result ≡ among true_words c.before.before.before.before.before.before.args.text.now
 asks-true c = c.is_among.ensures
 
 returns : tie.Need-returns
-unfolding booleanOf
+unfolding boolean_of
 returns c = rw (sym (asks-true c.before) ∙ c.if1.true)
 
 slice-aggregate-is-among-5 : tie.Need-slice-aggregate-is-among-5
@@ -48,21 +48,21 @@ is-among-requires-2 c κs = search rules
 -- and those for false
 asks-false : (c : tie.After-is-among2)
     → c.is-among2.result
-    ≡ among falseWords c.before.before.before.before.before.before.before.before.before.before.before.before.args.text.now
+    ≡ among false_words c.before.before.before.before.before.before.before.before.before.before.before.before.args.text.now
 asks-false c = c.is-among2.ensures
 
 -- none of the words for true
-not-true : (c : tie.After-is-among2)
-    → among trueWords c.before.before.before.before.before.before.before.before.before.before.before.before.args.text.now ≡ false
-not-true c = let e = c.before.before.before.before.before in sym (asks-true e.before) ∙ e.if1.false
+not_true : (c : tie.After-is-among2)
+    → among true_words c.before.before.before.before.before.before.before.before.before.before.before.before.args.text.now ≡ false
+not_true c = let e = c.before.before.before.before.before in sym (asks-true e.before) ∙ e.if1.false
 
 returns-2 : tie.Need-returns-2
-unfolding booleanOf
-returns-2 c = rw (not-true c.before, sym (asks-false c.before) ∙ c.if2.true)
+unfolding boolean_of
+returns-2 c = rw (not_true c.before, sym (asks-false c.before) ∙ c.if2.true)
 
 returns-3 : tie.Need-returns-3
-unfolding booleanOf
-returns-3 c = rw (not-true c.before, sym (asks-false c.before) ∙ c.if2.false)
+unfolding boolean_of
+returns-3 c = rw (not_true c.before, sym (asks-false c.before) ∙ c.if2.false)
 
 pub boolean-spec : {M : Type 1} → statement M
 boolean-spec =

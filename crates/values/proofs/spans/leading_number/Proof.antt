@@ -6,8 +6,8 @@ use native.Mathlib.Omega.{arith}
 use lib.ListN.{length}
 use borrow.Author.Rules.{rules}
 use Rattle.lines.specs.Bytes.{digit}
-use Rattle.values.proofs.Scan.{passed-stops, passed-done}
-use Rattle.values.proofs.Numbers.{Counted, counted_start, counted-more, counted-found}
+use Rattle.values.proofs.Scan.{passed_stops, passed_done}
+use Rattle.values.proofs.Numbers.{Counted, counted_start, counted_more, counted_found}
 use Rattle.values.proofs.spans.leading_number.Statement.{statement}
 use Rattle.values.proofs.spans.leading_number.Tie as tie
 
@@ -45,7 +45,7 @@ loop-again : tie.Need-loop-preserved invariant-loop decreases-loop
 loop-again c =
     let k = c.before.before in
     let l = k.before.before.before.before.before in
-    counted-more l.before.before.args.text.now l.loop.amount _ l.loop.digits c.before.digit_value.result l.loop.invariant (omega arith)
+    counted_more l.before.before.args.text.now l.loop.amount _ l.loop.digits c.before.digit_value.result l.loop.invariant (omega arith)
     (sym k.before.before.is_digit.ensures ∙ k.before.if1.true)
     c.before.digit_value.ensures
     c.push.ensures
@@ -54,15 +54,15 @@ returns : tie.Need-returns invariant-loop decreases-loop
 returns c =
     let l = c.before.before.before.before in
     let t = l.before.before.args.text.now in
-    counted-found t l.loop.amount l.loop.digits l.loop.invariant
-    (passed-stops digit t l.loop.digits l.loop.invariant.passed (omega arith) (sym c.before.is_digit.ensures ∙ c.if1.false))
+    counted_found t l.loop.amount l.loop.digits l.loop.invariant
+    (passed_stops digit t l.loop.digits l.loop.invariant.passed (omega arith) (sym c.before.is_digit.ensures ∙ c.if1.false))
 
 returns-2 : tie.Need-returns-2 invariant-loop decreases-loop
 returns-2 c =
     let l = c.before in
     let t = l.before.before.args.text.now in
-    counted-found t l.loop.amount l.loop.digits l.loop.invariant
-    (passed-done digit t l.loop.digits l.loop.invariant.passed (omega arith))
+    counted_found t l.loop.amount l.loop.digits l.loop.invariant
+    (passed_done digit t l.loop.digits l.loop.invariant.passed (omega arith))
 
 pub leading-number-spec : {M : Type 1} → statement M
 leading-number-spec =

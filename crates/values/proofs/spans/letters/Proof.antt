@@ -5,7 +5,7 @@ use native.Mathlib.Omega.{arith}
 use lib.ListN.{length}
 use borrow.Author.Rules.{rules}
 use Rattle.lines.specs.Bytes.{letter}
-use Rattle.values.proofs.Scan.{Passed, passed_start, passed-more, passed-stops, passed-done, length_found}
+use Rattle.values.proofs.Scan.{Passed, passed_start, passed_more, passed_stops, passed_done, length_found}
 use Rattle.values.proofs.spans.letters.Statement.{statement}
 use Rattle.values.proofs.spans.letters.Tie as tie
 
@@ -33,7 +33,7 @@ loop-less c = search rules
 loop-again : tie.Need-loop-preserved invariant-loop decreases-loop
 loop-again c =
     let l = c.before.before.before.before in
-    passed-more letter l.before.before.args.text.now l.loop.n l.loop.invariant (omega arith)
+    passed_more letter l.before.before.args.text.now l.loop.n l.loop.invariant (omega arith)
     (sym c.before.is-letter.ensures ∙ c.if1.true)
 
 returns : tie.Need-returns invariant-loop decreases-loop
@@ -41,13 +41,13 @@ returns c =
     let l = c.before.before.before.before in
     let t = l.before.before.args.text.now in
     sym (length_found letter t l.loop.n l.loop.invariant
-    (passed-stops letter t l.loop.n l.loop.invariant (omega arith) (sym c.before.is-letter.ensures ∙ c.if1.false)))
+    (passed_stops letter t l.loop.n l.loop.invariant (omega arith) (sym c.before.is-letter.ensures ∙ c.if1.false)))
 
 returns-2 : tie.Need-returns-2 invariant-loop decreases-loop
 returns-2 c =
     let l = c.before in
     let t = l.before.before.args.text.now in
-    sym (length_found letter t l.loop.n l.loop.invariant (passed-done letter t l.loop.n l.loop.invariant (omega arith)))
+    sym (length_found letter t l.loop.n l.loop.invariant (passed_done letter t l.loop.n l.loop.invariant (omega arith)))
 
 pub letters-spec : {M : Type 1} → statement M
 letters-spec =

@@ -6,11 +6,11 @@ use mathlib.Core.Option.{some}
 use lib.ListN.{length, drop}
 use borrow.Author.Rules.{rules}
 use Rattle.lines.specs.Bytes.{Bytes, blank, letter}
-use Rattle.lines.proofs.Slices.{part-from}
-use Rattle.values.specs.Spans.{scaleIn, units, longest}
-use Rattle.values.specs.Steps.{scaleMeans}
-use Rattle.values.proofs.Parts.{no_number, part-wrong, part_right, name-part, place-start, run_inside}
-use Rattle.values.proofs.Units.{scale-positive}
+use Rattle.lines.proofs.Slices.{part_from}
+use Rattle.values.specs.Spans.{scale_in, units, longest}
+use Rattle.values.specs.Steps.{scale_means}
+use Rattle.values.proofs.Parts.{no_number, part_wrong, part_right, name_part, place_start, run_inside}
+use Rattle.values.proofs.Units.{scale_positive}
 use Rattle.values.proofs.spans.part.Statement.{statement}
 use Rattle.values.proofs.spans.part.Tie as tie
 
@@ -22,10 +22,10 @@ returns c =
 -- ---- the four runs
 
 digits-inside : (c : tie.Else1) → c.before.before.args.number.digits ≤ length c.before.before.args.text.now
-digits-inside c = place-start c.before.before.args.text.now _ c.before.before.requires.1.digits_are
+digits-inside c = place_start c.before.before.args.text.now _ c.before.before.requires.1.digits_are
 
-some-digit : (c : tie.Else1) → 0 < c.before.before.args.number.digits
-some-digit c = omega (arith, c.if1.false)
+some_digit : (c : tie.Else1) → 0 < c.before.before.args.number.digits
+some_digit c = omega (arith, c.if1.false)
 
 sub-blanks : tie.Need-overflow-sub-blanks
 sub-blanks c = digits-inside c
@@ -44,7 +44,7 @@ gap_is : (c : tie.After-blanks)
     ≡ length (longest blank (drop c.before.before.before.before.args.number.digits c.before.before.before.before.args.text.now))
 gap_is c =
     c.blanks.ensures
-    ∙ ap (λ (l : Bytes). length (longest blank l)) (part-from c.before.before.before.before.args.number.digits _)
+    ∙ ap (λ (l : Bytes). length (longest blank l)) (part_from c.before.before.before.before.args.number.digits _)
 
 gap-inside : (c : tie.After-blanks)
     → c.before.before.before.before.args.number.digits + c.blanks.result ≤ length c.before.before.before.before.args.text.now
@@ -73,13 +73,13 @@ abbrev text_of : tie.After-letters → Bytes
 text_of c = c.before.before.before.before.before.before.args.text.now
 
 name-is : (c : tie.After-letters) → c.letters.result ≡ length (longest letter (drop (start c) (text_of c)))
-name-is c = c.letters.ensures ∙ ap (λ (l : Bytes). length (longest letter l)) (part-from (start c) _)
+name-is c = c.letters.ensures ∙ ap (λ (l : Bytes). length (longest letter l)) (part_from (start c) _)
 
-name-inside : (c : tie.After-letters) → start c + c.letters.result ≤ length (text_of c)
-name-inside c = run_inside letter (start c) c.letters.result _ (name-is c) (gap-inside c.before.before)
+name_inside : (c : tie.After-letters) → start c + c.letters.result ≤ length (text_of c)
+name_inside c = run_inside letter (start c) c.letters.result _ (name-is c) (gap-inside c.before.before)
 
 add-end : tie.Need-overflow-add-end
-add-end c = omega (arith, name-inside c)
+add-end c = omega (arith, name_inside c)
 
 sub-scale-of : tie.Need-overflow-sub-scale-of
 sub-scale-of c = search rules
@@ -88,7 +88,7 @@ part-scale-of-start : tie.Need-slice-bounds-scale-of-start
 part-scale-of-start c = search rules
 
 part-scale-of-end : tie.Need-slice-bounds-scale-of-end
-part-scale-of-end c = omega (arith, name-inside c)
+part-scale-of-end c = omega (arith, name_inside c)
 
 scale-of-requires : tie.Need-scale-of-requires
 scale-of-requires c κs = search rules
@@ -102,30 +102,30 @@ enum_told c = search rules
 -- ---- the unit
 
 scale-is : (c : tie.After-scale-of)
-    → scaleMeans c.scale_of.result ≡ scaleIn units (longest letter (drop (start c.before.before) (text_of c.before.before)))
+    → scale_means c.scale_of.result ≡ scale_in units (longest letter (drop (start c.before.before) (text_of c.before.before)))
 scale-is c =
     let l = c.before.before in
-    c.scale_of.ensures ∙ ap (scaleIn units) (name-part (text_of l) (start l) l.letters.result (name-is l))
+    c.scale_of.ensures ∙ ap (scale_in units) (name_part (text_of l) (start l) l.letters.result (name-is l))
 
 unit-is : (c : tie.After-scale)
-    → scaleIn units (longest letter (drop (start c.before.before.before.before) (text_of c.before.before.before.before))) ≡ some c.scale.given.0.0
-unit-is c = sym (scale-is c.before.before) ∙ ap scaleMeans c.scale.given.1
+    → scale_in units (longest letter (drop (start c.before.before.before.before) (text_of c.before.before.before.before))) ≡ some c.scale.given.0.0
+unit-is c = sym (scale-is c.before.before) ∙ ap scale_means c.scale.given.1
 
 returns-2 : tie.Need-returns-2
 returns-2 c =
     let s = c.before.before in
     let b = s.before.before.before.before in
-    part-wrong (text_of s.before.before) _ b.blanks.result b.before.before.before.before.requires.1.digits_are
-    (some-digit b.before.before) (gap_is b) (sym (scale-is s) ∙ ap scaleMeans c.enum_told.given.1)
+    part_wrong (text_of s.before.before) _ b.blanks.result b.before.before.before.before.requires.1.digits_are
+    (some_digit b.before.before) (gap_is b) (sym (scale-is s) ∙ ap scale_means c.enum_told.given.1)
 
 times-requires : tie.Need-times-requires
-times-requires c κs = scale-positive _ _ (unit-is c.before)
+times-requires c κs = scale_positive _ _ (unit-is c.before)
 
 sub-blanks-2 : tie.Need-overflow-sub-blanks-2
-sub-blanks-2 c = name-inside c.before.before.before.before.before.before
+sub-blanks-2 c = name_inside c.before.before.before.before.before.before
 
 part-blanks-start-2 : tie.Need-slice-bounds-blanks-start-2
-part-blanks-start-2 c = omega (arith, name-inside c.before.before.before.before.before.before)
+part-blanks-start-2 c = omega (arith, name_inside c.before.before.before.before.before.before)
 
 part-blanks-end-2 : tie.Need-slice-bounds-blanks-end-2
 part-blanks-end-2 c = search rules
@@ -141,12 +141,12 @@ behind-is : (c : tie.After-blanks2)
     ≡ length (longest blank (drop (start (lettersOf c) + (lettersOf c).letters.result) (text_of (lettersOf c))))
 behind-is c =
     let l = lettersOf c in
-    c.blanks2.ensures ∙ ap (λ (t : Bytes). length (longest blank t)) (part-from (start l + l.letters.result) (text_of l))
+    c.blanks2.ensures ∙ ap (λ (t : Bytes). length (longest blank t)) (part_from (start l + l.letters.result) (text_of l))
 
 add-length : tie.Need-overflow-add-length
 add-length c =
     let l = lettersOf c in
-    omega (arith, run_inside blank (start l + l.letters.result) c.blanks2.result (text_of l) (behind-is c) (name-inside l))
+    omega (arith, run_inside blank (start l + l.letters.result) c.blanks2.result (text_of l) (behind-is c) (name_inside l))
 
 returns-3 : tie.Need-returns-3
 returns-3 c =
@@ -156,9 +156,9 @@ returns-3 c =
     let s = c.before.before.before.before in
     part_right (text_of l) c.before.before.times.result n.args.number.digits b.blanks.result l.letters.result c.blanks2.result s.scale.given.0.0
     (record { digits = n.pre.1.digits_are; gap = gap_is b; name = name-is l; behind = behind-is c })
-    (some-digit b.before.before)
+    (some_digit b.before.before)
     (unit-is s)
-    (c.before.before.times.ensures _ n.pre.1.amount-is)
+    (c.before.before.times.ensures _ n.pre.1.amount_is)
 
 pub part-spec : {M : Type 1} → statement M
 part-spec =

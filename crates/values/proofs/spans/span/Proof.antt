@@ -5,12 +5,12 @@ use native.Mathlib.Omega.{arith}
 use lib.ListN.{length}
 use borrow.Author.Rules.{rules}
 use Rattle.lines.specs.Bytes.{Bytes, digit}
-use Rattle.lines.specs.Trim.{trimStart}
-use Rattle.lines.proofs.Trimming.{trimmed-start}
+use Rattle.lines.specs.Trim.{trim_start}
+use Rattle.lines.proofs.Trimming.{trimmed_start}
 use Rattle.values.specs.Spans.{runs, tokens, parts_of, longest}
 use Rattle.values.specs.Steps.{SumOf}
 use Rattle.values.specs.declared.spans.Sum.{Sum}
-use Rattle.values.proofs.Verdict.{span-empty, span-seconds, span-total, span-wrong}
+use Rattle.values.proofs.Verdict.{span_empty, span_seconds, span_total, span_wrong}
 use Rattle.values.proofs.spans.span.Statement.{statement}
 use Rattle.values.proofs.spans.span.Tie as tie
 
@@ -18,7 +18,7 @@ trim-requires : tie.Need-trim-requires
 trim-requires c κs = search rules
 
 returns : tie.Need-returns
-returns c = sym (span-empty _ _ c.before.trim.ensures c.if1.true)
+returns c = sym (span_empty _ _ c.before.trim.ensures c.if1.true)
 
 some_byte : (c : tie.Else1) → 0 < length c.before.trim.result.now
 some_byte c = omega (arith, c.if1.false)
@@ -37,12 +37,12 @@ returns-2 c =
     let t = c.before.before in
     let n = t.before.before in
     let e = n.before in
-    c.judged.ensures _ (c.before.times.ensures _ n.leading-number.ensures.amount-is)
-    ∙ sym (span-seconds _ _ e.before.trim.ensures (some_byte e) (sym n.leading-number.ensures.digits_are ∙ t.if2.true))
+    c.judged.ensures _ (c.before.times.ensures _ n.leading-number.ensures.amount_is)
+    ∙ sym (span_seconds _ _ e.before.trim.ensures (some_byte e) (sym n.leading-number.ensures.digits_are ∙ t.if2.true))
 
 sum-parts-requires : tie.Need-sum-parts-requires
 sum-parts-requires c κs = (
-  subst (λ (s : Bytes). trimStart s ≡ s) (sym c.before.before.before.before.trim.ensures) (trimmed-start _),
+  subst (λ (s : Bytes). trim_start s ≡ s) (sym c.before.before.before.before.trim.ensures) (trimmed_start _),
   c.before.before.leading-number.ensures,
 )
 
@@ -68,14 +68,14 @@ returns-3 c =
     let s = e.before.trim.result.now in
     let total = subst (λ (z : Sum). SumOf (parts_of (tokens (runs s))) z) g.total.given.1 p.sum-parts.ensures in
     c.judged2.ensures _ total.total
-    ∙ sym (span-total _ s _ e.before.trim.ensures (some_byte e) (not-alone p.before) total)
+    ∙ sym (span_total _ s _ e.before.trim.ensures (some_byte e) (not-alone p.before) total)
 
 returns-4 : tie.Need-returns-4
 returns-4 c =
     let p = c.before.before in
     let e = p.before.before.before.before in
     let s = e.before.trim.result.now in
-    sym (span-wrong _ s e.before.trim.ensures (some_byte e) (not-alone p.before)
+    sym (span_wrong _ s e.before.trim.ensures (some_byte e) (not-alone p.before)
     (subst (λ (z : Sum). SumOf (parts_of (tokens (runs s))) z) c.enum_told.given.1 p.sum-parts.ensures))
 
 pub span-spec : {M : Type 1} → statement M

@@ -7,11 +7,11 @@ use mathlib.Core.Option.{none}
 use lib.ListN.{length, take, drop, length-drop}
 use borrow.Author.Rules.{rules}
 use Rattle.lines.specs.Bytes.{Bytes}
-use Rattle.lines.proofs.Slices.{part-from}
+use Rattle.lines.proofs.Slices.{part_from}
 use Rattle.values.specs.Spans.{runs, tokens}
-use Rattle.values.specs.Steps.{NumberAt, firstPart, PartFound, PartAt}
+use Rattle.values.specs.Steps.{NumberAt, first_part, PartFound, PartAt}
 use Rattle.values.specs.declared.spans.NextPart.{NextPart}
-use Rattle.values.proofs.Sums.{Walked, walk_start, walk_more, walk-wrong, walk-done}
+use Rattle.values.proofs.Sums.{Walked, walk_start, walk_more, walk_wrong, walk_done}
 use Rattle.values.proofs.spans.sum_parts.Statement.{statement}
 use Rattle.values.proofs.spans.sum_parts.Tie as tie
 
@@ -37,7 +37,7 @@ part-requires : tie.Need-part-requires invariant-loop decreases-loop
 part-requires c κs =
     let l = c.before.before in
     let t = l.before.before.args.text.now in
-    rw (part-from l.loop.offset t) (l.loop.invariant.0.no-blank, l.loop.invariant.1)
+    rw (part_from l.loop.offset t) (l.loop.invariant.0.no_blank, l.loop.invariant.1)
 
 enum-known-amount : tie.Need-enum-known-amount invariant-loop decreases-loop
 enum-known-amount c = search rules
@@ -52,7 +52,7 @@ found c =
     let p = c.before.before in
     let l = p.before.before.before in
     let t = l.before.before.args.text.now in
-    subst (λ (s : Bytes). PartFound s c.amount.given.0.0 c.amount.given.0.1.0) (part-from l.loop.offset t)
+    subst (λ (s : Bytes). PartFound s c.amount.given.0.0 c.amount.given.0.1.0) (part_from l.loop.offset t)
     (subst (λ (z : NextPart). PartAt (take (length t - l.loop.offset) (drop l.loop.offset t)) z) c.amount.given.1 p.part.ensures)
 
 -- it ends inside the text
@@ -89,7 +89,7 @@ loop-again c =
     let l = a.before.before.before.before.before in
     let t = l.before.before.args.text.now in (
       walk_more t l.loop.total _ _ l.loop.offset _ l.loop.invariant.0 (found a) p.plus.ensures,
-      subst (λ (s : Bytes). NumberAt s c.leading-number.result) (part-from (l.loop.offset + a.amount.given.0.1.0) t) c.leading-number.ensures,
+      subst (λ (s : Bytes). NumberAt s c.leading-number.result) (part_from (l.loop.offset + a.amount.given.0.1.0) t) c.leading-number.ensures,
     )
 
 enum_told : tie.Need-enum-told invariant-loop decreases-loop
@@ -100,14 +100,14 @@ returns c =
     let p = c.before.before in
     let l = p.before.before.before in
     let t = l.before.before.args.text.now in
-    walk-wrong t l.loop.total l.loop.offset l.loop.invariant.0 (omega arith)
-    (subst (λ (s : Bytes). firstPart (tokens (runs s)) ≡ none) (part-from l.loop.offset t)
+    walk_wrong t l.loop.total l.loop.offset l.loop.invariant.0 (omega arith)
+    (subst (λ (s : Bytes). first_part (tokens (runs s)) ≡ none) (part_from l.loop.offset t)
     (subst (λ (z : NextPart). PartAt (take (length t - l.loop.offset) (drop l.loop.offset t)) z) c.enum_told.given.1 p.part.ensures))
 
 returns-2 : tie.Need-returns-2 invariant-loop decreases-loop
 returns-2 c =
     let l = c.before in
-    walk-done l.before.before.args.text.now l.loop.total l.loop.offset l.loop.invariant.0 (omega arith)
+    walk_done l.before.before.args.text.now l.loop.total l.loop.offset l.loop.invariant.0 (omega arith)
 
 pub sum-parts-spec : {M : Type 1} → statement M
 sum-parts-spec =
