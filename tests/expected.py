@@ -5,9 +5,9 @@ the normal text from expected_normal.py.
 
 usage: expected.py [--check]      (--check: only compare with the files that stand)
 
-This follows the rules of document 01 (for lines they stand in rules_lines.py, with the later rule for comments) and,
-for single calls, the joiner's interface in docs/DECISIONS.md. It is no translation of the Rattle code, and Python's own
-strict decoder judges UTF-8. The hand-made results at the end are asserted first.
+This follows the rules of document 01 (for lines they stand in rules_lines.py) and, for single calls, the joiner's
+interface in docs/DECISIONS.md. It is no translation of the Rattle code, and Python's own strict decoder judges UTF-8.
+The hand-made results at the end are asserted first.
 """
 import os
 import sys
@@ -97,18 +97,6 @@ FILES = [
     ('# after the first byte', b'a#b;c\n'),
     ('comment of 5000 bytes', b'#' * 5000),
     ('comment of 5000 bytes in a joined line', b'K=a\\\n' + b'#' * 5000 + b'\nb'),
-    # indented
-    ('tabs and spaces before #', b'\t  \t#x\na\n'),
-    ('5000 blanks before #', b' ' * 5000 + b'#x\na'),
-    ('indented comment ending in a backslash', b' #x\\\nK=a\n'),
-    ('indented comment in a joined line', b'a\\\n\t ;x\nb\n'),
-    ('indented comments in a joined line', b'a\\\n #x\\\n\t;y\n  #z\\\n b\nc\n'),
-    ('a backslash, then an indented comment without LF', b'\\\n #x=1'),
-    ('a line of blanks, then an indented comment', b'a\\\n \t\n #x\nb\n'),
-    ('# behind another byte in a joined line', b'K=a\\\n b #c\n'),
-    ('no-break space before # in a joined line', b'a\\\n\xc2\xa0#x\n'),
-    ('4096 bytes around an indented comment', b'a' * 4094 + b'\\\n #x\nb'),
-    ('4097 bytes around an indented comment', b'a' * 4095 + b'\\\n #x\nb'),
     # joining
     ('joined at the end, LF', b'a\\\n'),
     ('joined at the end, no LF', b'a\\'),
@@ -215,9 +203,6 @@ CALLS = [
     ('to the end of the file', b'a\\\n#x\n', 0, 1, 4096),
     ('only comments left', b'#x\n', 0, 1, 4096),
     ('empty line', b'\nK=a', 0, 1, 4096),
-    ('indented comments', b' #x\n\t;y\nK=a\n', 0, 1, 4096),
-    ('past an indented comment', b'a\\\n #x\n', 0, 1, 4096),
-    ('inside a line, before #', b'a #x\nb\n', 1, 1, 4096),
     ('short buffer', TWO, 0, 1, 4095),
     ('empty buffer', TWO, 0, 1, 0),
     ('short buffer at the end', TWO, 8, 3, 4095),
@@ -240,20 +225,7 @@ HAND_FILES = {
     'one LF': b'1 0:\n',
     'comment ending in a backslash': b'2 1:b\n',
     'comments in a joined line': b'1 3:a b\n6 1:c\n',
-    'indented #': b'',
-    'indented ;': b'',
-    'indented # in a joined line': b'1 4:K=a \n',
-    'tabs and spaces before #': b'2 1:a\n',
-    '5000 blanks before #': b'2 1:a\n',
-    'indented comment ending in a backslash': b'2 3:K=a\n',
-    'indented comment in a joined line': b'1 3:a b\n',
-    'indented comments in a joined line': b'1 4:a  b\n6 1:c\n',
-    'a backslash, then an indented comment without LF': b'1 1: \n',
-    'a line of blanks, then an indented comment': b'1 4:a  \t\n4 1:b\n',
-    '# behind another byte in a joined line': b'1 9:K=a  b #c\n',
-    'no-break space before # in a joined line': b'1 6:a \xc2\xa0#x\n',
-    '4096 bytes around an indented comment': b'1 4096:aaaaaaaaaaaaaaaaaaaa..\n',
-    '4097 bytes around an indented comment': b'refused 5 at 1\n',
+    'indented # in a joined line': b'1 7:K=a  #b\n',
     'joined, then comments alone': b'1 2:a \n',
     'joined, then a line of blanks': b'1 4:a  \t\n3 1:b\n',
     'three lines of a backslash': b'1 3:   \n',
@@ -286,9 +258,6 @@ HAND_CALLS = {
     'line above offset + 1': b'end\n........\n',
     'comments are passed': b'3 3, then 10 4\nK=a.....\n',
     'to the end of the file': b'1 2, then 6 3\na ......\n',
-    'indented comments': b'3 3, then 12 4\nK=a.....\n',
-    'past an indented comment': b'1 2, then 7 3\na ......\n',
-    'inside a line, before #': b'2 1, then 7 3\nb.......\n',
     'short buffer': b'refused 1 at 0\n........\n',
     'too long a line': b'refused 5 at 1\n........\n',
 }

@@ -7,7 +7,7 @@ are held to each other. Only the generated cases at the end have the answer of t
 """
 from collections import namedtuple
 
-from expected_table import CRANE, FULL, NORMAL, SIXTY_FOUR, Generator, layout, numbers, read
+from expected_table import FULL, NORMAL, SIXTY_FOUR, Generator, layout, numbers, read
 from notation import shown
 from rules_lines import EXAMPLE
 
@@ -448,15 +448,6 @@ FILES = [
     *in_file(b'[A\\\nB]\nK\\\n=a\\\n  b\\\n\nK=c\\', (b'A B', b'K', (0, b'a   b'), (1, b'c')), (b'A\\', b'K', MISSING)),
     *in_file('[A]\nK=é…\U0001f600\nJ = ü \n'.encode(), (b'A', b'K', (0, 'é…\U0001f600'.encode())),
              (b'A', b'J', (1, 'ü'.encode())), (b'A', 'é'.encode(), MISSING)),
-    # comments behind blanks
-    *in_file(CRANE, (b'Scale', b'Capacity', (0, b'12000')), (b'Scale', b'Filter', (1, b'median 5         mean 3')),
-             (b'Cells', b'Serial', (3, b'"A 17"  \t"A 19"')), (b'Link', b'Port', (5, b'4002')),
-             (b'Link', b';Port', MISSING), (b'Scale', b'Span', (7, b'1.0025')), (b'Scale', b'Note', (8, b'tail\\'))),
-    *in_file(b'[A]\nK=a\\\n #x\\\n\t;y\nb', (b'A', b'K', (0, b'a b'))),
-    *in_file(b'[A]\nK=A \\\n  #17', (b'A', b'K', (0, b'A'))),
-    *in_file(b'[A]\nK=1\n #K=2\n\t;[B]\n #K=3\\\nK=4', (b'A', b'K', (0, b'1'), (1, b'4')), (b'B', b'K', MISSING)),
-    *in_file(b'[A]\nK=a\\\n b #c', (b'A', b'K', (0, b'a  b #c'))),
-    *in_file(b' #\n[A]\nK=1\n\t;\n[', (b'A', b'K', Unread(6, 5))),
     # no table
     *in_file(b'', (b'A', b'K', MISSING), (b'', b'', MISSING)),
     *in_file(b'[A]\n', (b'A', b'K', MISSING), (b'A', b'', MISSING)),
@@ -529,9 +520,6 @@ HAND = {
     b'read last [Cell] [Note] [%s]' % shown(NORMAL): b'  entry 3, 5 bytes [tail\\], start 49 length 5\n',
     b'read first [Cell] [Zero] [%s]' % shown(NORMAL): b'  entry 1, 0 bytes [], start 27 length 0\n',
     b'read first [A] [K] [[A<5d><0a>K=a\\<0a>#x\\<0a>b]': b'  entry 0, 3 bytes [a b], start 2 length 3\n',
-    b'read first [A] [K] [[A<5d><0a>K=A \\<0a>  #17]': b'  entry 0, 1 bytes [A], start 2 length 1\n',
-    b'read last [Cells] [Serial] [%s]' % shown(CRANE):
-        b'  entry 3, 15 bytes ["A 17"  <09>"A 19"], start 64 length 15\n',
     b'read first [A] [K] [K=1]': b'  not read, refused 9 at 1\n',
 }
 

@@ -1,10 +1,9 @@
 """The cases that the program `table_cases` reads, and what it is to print.
 
 This follows document 01: the lines of "Bytes and lines" from the heading on, "The table", and the refusals 1 to 10.
-What comes before the heading there, with the later rule for comments, is in rules_lines.py. Regular expressions and
-Python's own string methods take the lines apart. It is no translation of the Rattle code. Each case stands beside its
-answer as it was worked out by hand, and the two are held to each other. Only the generated files at the end have the
-answer of the rules here alone.
+Regular expressions and Python's own string methods take the lines apart. It is no translation of the Rattle code.
+Each case stands beside its answer as it was worked out by hand, and the two are held to each other. Only the
+generated files at the end have the answer of the rules here alone.
 """
 import re
 
@@ -212,14 +211,13 @@ HEADERS = [
             b'\\\n[A\\\nB]\\\n\nK=1'),
     *brings([b'A', (0, b'K', b'1')], b'[A]\\\n\nK=1', b'[A]\\\n \t\nK=1', b'[A]\\\n#x\n\nK=1', b'\\\n[A]\nK=1',
             b'\\\n\\\n [A]\nK=1', b'#\\\n[A]\nK=1', b'\t\\\n\t[A]\t\\\n\t\nK=1'),
-    *brings([b'A'], b'[A]\\', b'[A]\\\n', b'[A]\\\n#x', b'[A]\\\n #x', b'[A]\\\n\n', b'[A]\\\n\\\n\\',
-            b'[A]\n[A]\\\n\n[A]\\'),
+    *brings([b'A'], b'[A]\\', b'[A]\\\n', b'[A]\\\n#x', b'[A]\\\n\n', b'[A]\\\n\\\n\\', b'[A]\n[A]\\\n\n[A]\\'),
     *brings([b'A '], b'[A\\\n]'),
     *brings([b' '], b'[\\\n]'),
     *brings([b' A'], b'[\\\nA]'),
     *brings([b'A   B'], b'[A \\\n B]'),
     *refused(6, 1, b'[A]\\\nK=1', b'[A]\\\n[B]', b'[A\\', b'[A\\\n', b'[A\\\n\n]', b'[\\\n', b'[A]\\\\', b'[A]\\ ',
-             b'[A]\\ \n', b'[A]\\\\\nK=1', b'[A\\\n\tB]', b'[A\\\n#]\n', b'[A]\\\n#x\nK=1', b'[A]\\\n x #y'),
+             b'[A]\\ \n', b'[A]\\\\\nK=1', b'[A\\\n\tB]', b'[A\\\n#]\n', b'[A]\\\n#x\nK=1', b'[A]\\\n #x'),
     # faults
     *refused(6, 1, b'[', b'[]', b'[A', b'[A]x', b'[A]]', b'[[A]', b'[A]=1', b'[[', b'[]]', b'[[]]', b'[A] x',
              b'[A] [B]', b'[A][B]', b'[A]#x', b'[A] #x', b'[A] ;x', b' [', b'[ ', b'[\n]', b'[A]\t.', b'[A[B]',
@@ -258,7 +256,7 @@ ENTRIES = [
     *holds([(b'K', b'=a')], b'K==a', b'K= =a', b'K=\\\n=a'),
     # what stands in a value is data
     *holds([(b'K', b'[B]'), (b'J', b'#x'), (b'I', b'a;b #c')], b'K=[B]\nJ=#x\nI=a;b #c'),
-    *holds([(b'K', b'a  b #c')], b'K=a\\\n b #c'),
+    *holds([(b'K', b'a  #b')], b'K=a\\\n #b'),
     *holds([(b'K', b'a [B]')], b'K=a\\\n[B]'),
     *holds([(b'K', b'a J=1')], b'K=a\\\nJ=1'),
     *holds([(b'K', b'"a b" \'c\' \\x41')], b'K="a b" \'c\' \\x41'),
@@ -285,13 +283,9 @@ ENTRIES = [
     # no =
     *faulty(7, 2, b'K', b' K ', b'K J', b'\\\\', b'K:1', b']', 'é'.encode(), b'K\\', b'K\\\n\n=1', b'\\ ', b'K\\\n#=\n',
             b'K\\\n#=1\n;=2\n\n=1', b'\\\nK', b'x[B]', b'\\\\\n=1', b'"K"'),
-    # a # or ; behind blanks alone opens a comment
-    *holds([], b' #x', b'\t#x', b' ;', b' #x\n', b'\\\n#=\n #', b' ;\\\n#=1'),
-    *holds([], b' #x=1', b'\t;x=1', b' #=', b'\\\n #x=1', b' #K = 1\n'),
-    *holds([(b'K', b'a')], b'K=a\\\n #b'),
-    # behind any other byte it opens none
-    *faulty(7, 2, b'x #y', b'x\t#y', b' x ;', b'x #y\n', b'\\\n#=\nx #', b'x ;\\\n#=1'),
-    *faulty(8, 2, b'K #x=1', b'K\t;x=1', b'K #=', b'\\\nK #x=1', b' K#K = 1\n'),
+    # a # or ; behind a blank opens no comment
+    *faulty(7, 2, b' #x', b'\t#x', b' ;', b' #x\n', b'\\\n#=\n #', b' ;\\\n#=1'),
+    *faulty(8, 2, b' #x=1', b'\t;x=1', b' #=', b'\\\n #x=1', b' #K = 1\n'),
 ]
 
 
@@ -326,17 +320,8 @@ def key_byte(byte):
     return refused(8, 2, one, front, inside, end)
 
 
-def byte_before_mark(byte):
-    """One byte before #."""
-    file = A + b'%c#x=1' % byte
-    if byte in b' #;':
-        return brings([b'A'], file)
-    return refused(6 if byte == ord('[') else 8, 2, file)
-
-
 BYTES = [*sum([name_byte(byte) for byte in range(0x20, 0x7f)], []),
          *sum([key_byte(byte) for byte in range(0x20, 0x7f)], []),
-         *sum([byte_before_mark(byte) for byte in range(0x20, 0x7f)], []),
          # and all of them in a value
          *brings(in_a((b'K', bytes(range(0x21, 0x7f)))), A + b'K=' + bytes(range(0x20, 0x7f)))]
 
@@ -455,8 +440,7 @@ SIZES = [
     *brings([LONG[2:], (0, b'K', b'1')], b'[' + LONG[2:] + b']\nK=1'),
     *brings([b' ' * 4094], b'[' + b' ' * 4094 + b']'),
     *brings([b'A'], A + b' ' * 4096, A + b'\t' * 4096 + b'\n', b'[A]' + b' ' * 4093, b' ' * 4093 + b'[A]',
-            A + b'#' * 5000, A + b' ' * 4095 + b'\\', b';' * 4097 + b'\n[A]', A + b' ' * 2000 + b'\\\n' + b'\t' * 2095,
-            A + b' #' + b'x' * 4095),
+            A + b'#' * 5000, A + b' ' * 4095 + b'\\', b';' * 4097 + b'\n[A]', A + b' ' * 2000 + b'\\\n' + b'\t' * 2095),
     *brings(in_a((b'K', b'1')), A + b'K=1' + b' ' * 4093, A + b' ' * 4093 + b'K=1', A + b'K' + b' ' * 4093 + b'=1',
             A + b'K=' + b' ' * 4093 + b'1', A + b'K=1' + b' ' * 4092 + b'\\\n', A + b'#' * 5000 + b'\nK=1'),
     *brings([b'A', (0, b'K', b'a' * 4093)], A + b'K=' + b'a' * 4093 + b'\\\n', A + b'K=' + b'a' * 4093 + b'\\'),
@@ -468,7 +452,7 @@ SIZES = [
              b'\n[' + b'a' * 4095 + b']', A + b' ' * 4097, A + b'\t' * 4097 + b'\n', b'\n[A]' + b' ' * 4094,
              A + b'K=1' + b' ' * 4094, A + b' ' * 4094 + b'K=1', A + b'K=' + b'a' * 4094 + b'\\\n',
              A + b'K=' + b'a' * 4094 + b'\\', A + b'K=' + b'a' * 2000 + b'\\\n' + b'b' * 2094, A + b' ' * 4096 + b'\\',
-             A + b'x #' + b'x' * 4094, A + 'K=é…'.encode() + LONG[6:]),
+             A + b' #' + b'x' * 4095, A + 'K=é…'.encode() + LONG[6:]),
     # files of 65,534 and 65,535 bytes
     *brings(in_a((b'K', b'1')), A + b'#' * 65526 + b'\nK=1', A + b'#' * 65526 + b'\nK=1\n', A + b'K=1\n' + b'#' * 65526,
             A + b'K=1\n' + b'\n' * 65527, A + b'K=1\n' + b'#' * 65525 + b'\n', b'\n' * 65527 + A + b'K=1\n',
@@ -489,145 +473,6 @@ SIZES = [
     *refused(8, 18, WIDE[:-3] + b'\n='),
     *refused(10, 514, MANY[:-5] + b'\nK=1'),
     *refused(10, 577, SPREAD[:-5] + b'\n[A]'),
-]
-
-
-# ---- comments behind blanks
-
-# A customer's file of 25 lines.
-CRANE = b'''\
-  # crane scale 12, hall 3
-[Scale]
-    # largest load, in kg
-Capacity=12000
-\t; how the readout is smoothed
-Filter=median 5 \\
-       # five samples since 2019
-       mean 3
-  Unit = kg
-[Cells]
-\t# from left to right
-Serial="A 17" \\
-\t; A 18 is broken \\
-  \t#  and A 20 a spare
-\t"A 19"
-    Zero=
-[Link]
-    ;Port=4001
-Port=4002
-Wait=2min 200ms
-  [Scale]
-  # set at the bench, do not touch \\
-Span=1.0025
-Note=tail\\\x20
-    # end'''
-
-CRANE_BRINGS = [
-    b'Scale', (0, b'Capacity', b'12000'), (0, b'Filter', b'median 5         mean 3'), (0, b'Unit', b'kg'),
-    b'Cells', (1, b'Serial', b'"A 17"  \t"A 19"'), (1, b'Zero', b''),
-    b'Link', (2, b'Port', b'4002'), (2, b'Wait', b'2min 200ms'),
-    (0, b'Span', b'1.0025'), (0, b'Note', b'tail\\')]
-
-
-def indented(file):
-    """The same file with blanks before each comment that has none."""
-    return re.sub(rb'(?m)^(?=[#;])', b' \t', file)
-
-
-# 5,000 bytes each.
-LONG_COMMENTS = b' ' + b'#' * 4999, b' ' * 4999 + b'#', b'\t;' + b'x' * 4998
-
-
-def around(count):
-    """Entries of the key K, whose value is 2,000 a, a space, and so many b, with one of these comments inside."""
-    return [A + b'K=' + b'a' * 2000 + b'\\\n' + comment + b'\n' + b'b' * count for comment in LONG_COMMENTS]
-
-
-INDENTED = [
-    *brings(CRANE_BRINGS, CRANE, CRANE + b'\n', b'\t;\\\n' + CRANE + b'\\\n #'),
-    *refused(7, 26, CRANE + b'\nkg', CRANE + b'\\\nkg'),
-    *refused(6, 26, CRANE + b'\n[Scale\n #]'),
-    *brings(NORMAL_BRINGS, indented(NORMAL)),
-    *brings(EXAMPLE_BRINGS, indented(EXAMPLE)),
-    # nothing else in the file
-    *brings([], b' #', b'\t;', b' #x\n', b'\t;x', b' \t  \t#[A]\n', b' #[A]\n\t;K=1', b' #a\\\n ;b\\', b'\\\n #x=1',
-            b'\\\n\t;x\\\n  #[', b' #\n \n\t;\n\n', b' ' * 5000 + b'#', b'\t' * 5000 + b';x\n',
-            b' ' * 2500 + b'\t' * 2500 + b' #'),
-    # before, between and behind other lines, with a backslash at its end too
-    *brings(in_a((b'K', b'1'), (b'J', b'2')), b' #x\n[A]\n\t;y\nK=1\n  #z\nJ=2\n #',
-            b'\t#\\\n[A]\n ;\\\nK=1\n  #K=3\\\nJ=2\n\t;\\', b' \t#[B]\n[A]\nK=1\n #[B]\n\t;K\nJ=2\n \t \n\t;',
-            b'[A]\nK=1\n' + b' ' * 5000 + b'#\\\nJ=2'),
-    # between joined lines
-    *holds([(b'K', b'a b')], b'K=a\\\n #x\nb', b'K=a\\\n\t;x\\\nb', b'K=a\\\n #x\n\t;y\\\n \t#z\nb\n',
-           b'K=a\\\n#x\n #y\n;z\nb', b'\\\n #\nK=a\\\n ;\nb\\\n\t#\n', b' #x\\\nK=a\\\n #J=1\nb\n  ;',
-           b'K=a\\\n' + b' ' * 5000 + b'#\nb', b'K=a\\\n ;' + b'x' * 5000 + b'\nb'),
-    *holds([(b'K', b'a b c')], b'K=a\\\n #1\\\nb\\\n\t;2\n  ;3\nc', b' #0\nK=a\\\nb\\\n\t \t#4\\\nc\n #5'),
-    # its blanks go with it, those of the next line stay
-    *holds([(b'K', b'a   b')], b'K=a\\\n    #x\n  b', b'K=a\\\n \\\n #x\nb'),
-    # nothing of it is in the value
-    *holds([(b'K', b'A')], b'K=A \\\n  #17', b'K=A \\\n  #17\n', b'K=A\\\n\t;17\\\n #18'),
-    *holds([(b'K', b'')], b'K=\\\n #a', b'K\\\n #\n=', b'K = \\\n\t;\\\n #b\n'),
-    # blanks alone are no comment: they end the joining, before it and behind it
-    *holds([(b'K', b'a'), (b'J', b'b')], b'K=a\\\n #x\n \t\nJ=b', b'K=a\\\n \t\n #x\nJ=b', b'K=a\\\n\n #x\\\nJ=b',
-           b'K=a\\\n #x\\\n\n\t;y\nJ=b\\\n #', b'K=a\\\n\t\n\t#\nJ=b\\\n\t#\n\t\n'),
-    # headers
-    *brings([b'A', (0, b'K', b'1')], b'\\\n  #x\n[A]\nK=1', b'\\\n \t;x\\\n[A]\nK=1', b'[A]\\\n #x\n\nK=1',
-            b' #\n [A]\\\n\t;\n \nK=1'),
-    *brings([b'A B', (0, b'K', b'1')], b'[A\\\n #x\nB]\nK=1', b'[A\\\n #]\n\t;]\\\nB]\nK=1'),
-    *brings([b'A'], b'[A]\\\n #x\n', b'[A]\\\n\t;\\\n #[B]', b'[A] \\\n  #x'),
-    *brings([b' #', b';'], b'[ #]\n[;]'),
-    *refused(6, 1, b'[A \\\n #]', b'[\\\n ;]\n', b'[A]\\\n #x\nK=1', b'[A] #x', b'[A]\t;x', b'[A]\\\n x;'),
-    # behind another byte # and ; are data
-    *holds([(b'K', b'#x')], b'K= #x', b'K=\t#x', b' K = #x'),
-    *holds([(b'K', b'a #b ;c')], b'K=a #b ;c', b'  K=a #b ;c'),
-    *holds([(b'K', b'a  b #c')], b'K=a\\\n b #c', b'K=a\\\n #x\n b #c'),
-    *holds([(b'K', b'a "#"')], b'K=a\\\n"#"'),
-    *holds([(b'K', b'a \\#')], b'K=a\\\n\\#'),
-    *faulty(7, 2, b'\\ #x', b' \\#', b'x\\\n y #', b'x\\\n #=\n y'),
-    *faulty(8, 2, b'= #', b' =#', b'\\\n =;'),
-    # a byte order mark, a no-break space and other spaces are no blanks
-    *refused(7, 1, b'\xef\xbb\xbf#x', b'\xef\xbb\xbf #x', b' \xef\xbb\xbf;\n[A]', b'\xc2\xa0#x', b' \xc2\xa0#x',
-             b'\xc2\xa0 ;\n[A]', b'\xc2\x85#', '\u2003#'.encode(), '\u3000;x'.encode()),
-    *refused(8, 1, b'\xef\xbb\xbf#x=1', b'\xef\xbb\xbf ;x=1', b'\xc2\xa0#x=1', b'\t\xc2\xa0#x=1'),
-    *refused(8, 3, A + b'K=1\n\xc2\xa0#J=1'),
-    *holds([(b'K', b'a \xc2\xa0#b')], b'K=a\\\n\xc2\xa0#b'),
-    *holds([(b'K', b'a  \xef\xbb\xbf#b')], b'K=a\\\n \xef\xbb\xbf#b'),
-    *faulty(4, 2, b'\x0b#', b' \x0c#x', b'\r#x', b'\x00;'),
-    # lines are counted, these comments too
-    *refused(7, 4, b' #\n\t;\n\nK', A + b' #\n\t;x\\\nK'),
-    *refused(7, 5, A + b' #\n\t#\n ;\nK', A + b'J=a\\\n #b\nc\nK'),
-    *refused(7, 3, b' #x=1\n\n K'),
-    *refused(6, 4, b' #1\n[A]\n\t;2\n[A\n  #3'),
-    *refused(8, 6, A + b' #\nJ=1\\\n\t;\n2\n=1\nK'),
-    *refused(9, 3, b' #[A]\n\t;\nK=1'),
-    *refused(10, 66, SIXTY_FOUR + b' #[A]\n[A]'),
-    *refused(10, 515, FULL + b'\t;K=\nK='),
-    *brings((NAMES, 64, 0), SIXTY_FOUR + b' #[A]', SIXTY_FOUR + b'\t;[s64]\n'),
-    *brings((1 + 512, 1, 512), FULL + b' #K=1'),
-    # a joined line has the place of its first physical line
-    *refused(6, 2, A + b'[A\\\n #x]\nB'),
-    *refused(7, 3, A + b' #\nK\\\n #=\n\n=1', A + b'\t;\nK\\\n\t;=1'),
-    *refused(8, 2, A + b'\\\n #x\n=1', A + b'K\\\n #\n\t;\nJ=1'),
-    *refused(9, 1, b'\\\n #[A]\nK=1', b'K=1\\\n #'),
-    # 3 and 4 are judged in them
-    *refused(3, 2, A + b' #\xff', A + b'\t;\xc3\n', b'K\n  #\xed\xa0\x80\nK', b'\\\n #\x80\nK=1'),
-    *refused(3, 3, A + b'K=a\\\n #\xe2\x82\nb', b' #\x01\n\n\t;\xff'),
-    *refused(4, 2, A + b' #\x01', A + b'\t;x\r\n', b'K\n #\x7f\n[', b'\\\n\t#\x00'),
-    *refused(4, 3, A + b'K=a\\\n\t;\x0b\nb'),
-    # 5 counts none of their bytes, whether they stand alone or between joined lines; a line of blanks it counts
-    *brings([b'A'], A + b' ' * 4096 + b'#', A + b' ' * 4097 + b'#', A + b'\t' * 4097 + b';\n', b' ' * 4095 + b'#\n[A]',
-            b' #' + b'x' * 5000 + b'\n[A]', b'[A]\\\n' + b' ' * 4097 + b'#'),
-    *refused(5, 2, A + b' ' * 4097, A + b'\t' * 4097 + b'\n #', A + b' ' * 4096 + b'x#', A + b'\\\n' + b' ' * 4096),
-    *brings([b'A', (0, b'K', b'a' * 2000 + b' ' + b'b' * 2093)], *around(2093)),
-    *refused(5, 2, *around(2094)),
-    *brings([b'A', (0, b'K', b'a' * 4093)], A + b'K=' + b'a' * 4093 + b'\\\n #x'),
-    *refused(5, 2, A + b'K=' + b'a' * 4094 + b'\\\n #x'),
-    *refused(5, 3, A + b' #\n' + b'a' * 4097, A + b'\t;' + b'x' * 5000 + b'\nK=\\\n #\n' + b'a' * 4094),
-    *refused(7, 3, A + b' #' + b'x' * 4095 + b'\nK'),
-    # files of 65,534 bytes, and 65,535 with the LF; one byte more
-    *brings([b'A'], A + b' ' + b'#' * 65529, A + b' ' * 65529 + b'#', A + b' ' * 65529 + b'#\n'),
-    *refused(2, 0, A + b' ' + b'#' * 65530, A + b' ' * 65530 + b'#', A + b' ' * 65530 + b'#\n'),
-    *refused(5, 2, A + b' ' * 65530),
 ]
 
 
@@ -696,10 +541,6 @@ PARTS = [b'[A]', b'[b]', b'[A\\]', b'\n', b'\n', b'\n', b'\n', b'\\\n', b'A=', b
 LINES = [b'[A]\n', b'[b]\n', b'[ A]\n', b'A=1\n', b' b = 1 1 \n', b'A=\\\n', b'b.1=[A]\\\n', b'#A\n', b';\\\n', b'\n',
          b' \\\n', b'[A]\\\n', b'A=\\\\\n', b'1==\n', b'A=b\\\n #\n', b'-=;\n', b'[\\\n#\n]\n', b'b\\\n=1\\\n\n',
          b'\t1=A\\ \n', b'b=b\n']
-# with more comments behind blanks, and # that opens none
-INDENTED_PARTS = PARTS + [b' #', b'\t;', b'\n #b\\\n', b'\n\t;\n', b'\\\n \t#A=\n']
-INDENTED_LINES = LINES + [b' #A\n', b'\t;\\\n', b'  #b=1\n', b' \t;[A]\\\n', b'A=b\\\n\t#\\\n 1\n', b'b=1 #\n',
-                          b'A=\\\n \\\n ;\n', b'b=1\\\n 1 #\n', b'A=b\\\n\xc2\xa0#\n']
 
 
 def generated():
@@ -709,9 +550,6 @@ def generated():
     files += [source.text(16, PARTS) for _ in range(60)]
     files += [A + source.text(16, PARTS) for _ in range(120)]
     files += [A + source.text(12, LINES) for _ in range(160)]
-    files += [source.text(16, INDENTED_PARTS) for _ in range(40)]
-    files += [A + source.text(16, INDENTED_PARTS) for _ in range(80)]
-    files += [A + source.text(12, INDENTED_LINES) for _ in range(120)]
     return [Case(None, file) for file in dict.fromkeys(files)]
 
 
@@ -749,37 +587,17 @@ HAND = {
   sections 0 4 27 4 then 99999, rest kept
   entries 0 4 6 10 13 0 23 4 27 0 1 31 4 35 10 0 45 4 49 5 then 99999, rest kept
 ''',
-    b'read 65535 128 2560 [[A<5d><0a> #x]': b'''\
-  1 text bytes, 1 sections, 0 entries
-  text [A] then a5, rest kept
-  sections 0 1 then 99999, rest kept
-  entries then 99999, rest kept
-''',
-    b'read 65535 128 2560 [[A<5d><0a>K=A \\<0a>  #17]': b'''\
-  3 text bytes, 1 sections, 1 entries
-  text [AKA] then a5, rest kept
-  sections 0 1 then 99999, rest kept
-  entries 0 1 1 2 1 then 99999, rest kept
-''',
-    b'read 65535 128 2560 [%s]' % shown(CRANE): b'''\
-  128 text bytes, 3 sections, 9 entries
-  text [ScaleCapacity12000Filtermedian 5         mean 3UnitkgCellsSerial"A 17"  <09>"A 19"ZeroLinkPort4002\
-Wait2min 200msSpan1.0025Notetail\\] then a5, rest kept
-  sections 0 5 53 5 83 4 then 99999, rest kept
-  entries 0 5 8 13 5 0 18 6 24 23 0 47 4 51 2 1 58 6 64 15 1 79 4 83 0 2 87 4 91 4 2 95 4 99 10 0 109 4 113 6 \
-0 119 4 123 5 then 99999, rest kept
-''',
 }
 
 
 def outputs():
-    cases = BENCH + HEADERS + ENTRIES + BYTES + PLACES + COUNTS + SIZES + INDENTED + BUFFERS + TWICE
+    cases = BENCH + HEADERS + ENTRIES + BYTES + PLACES + COUNTS + SIZES + BUFFERS + TWICE
     told = {case.line: b'  ' + case.told() for case in cases + generated()}
     # a file that several lists have is read once, but those of the bench again: nothing is left over from a call
     listed = [*told, *[case.line for case in BENCH]]
     lines = b''.join(line + b'\n' for line in listed)
     for line, printed in HAND.items():
         assert told[line] == printed, line
-    assert len(lines) < 262144, len(lines)
+    assert len(lines) < 200000, len(lines)
     printed = b''.join(line + b'\n' + told[line] for line in listed)
     return {'table_cases/stdin': lines, 'table_cases/stdout': printed}

@@ -1,5 +1,6 @@
-"""The rules of document 01 for bytes and lines: the refusals of a whole file, and its logical lines. What a comment is
-stands in the customer's later request [1]. Python's own strict decoder judges UTF-8.
+"""The rules of document 01 for bytes and lines: the refusals of a whole file, and its logical lines.
+
+Python's own strict decoder judges UTF-8.
 """
 import re
 
@@ -19,12 +20,6 @@ def refusal(file):
     return None
 
 
-def is_comment(line):
-    """The request's words: "a comment line is one whose first byte that is no blank is # or ;". A blank is a space or a
-    tab. Each physical line is judged by itself, inside joined lines too; one of blanks alone is no comment."""
-    return line.lstrip(b' \t')[:1] in (b'#', b';')
-
-
 def is_continued(line):
     return (len(line) - len(line.rstrip(b'\\'))) % 2 == 1
 
@@ -35,7 +30,7 @@ def logical_lines(file, start=0, number=1):
     for line in re.findall(rb'[^\n]*\n|[^\n]+', file[start:]):
         end += len(line)
         text = line.removesuffix(b'\n')
-        if not is_comment(text):
+        if not text.startswith((b'#', b';')):
             first, before = pending or (number, b'')
             if is_continued(text):
                 pending = first, before + text[:-1] + b' '

@@ -3,7 +3,6 @@ use Rattle.claims.specs.RoundTrip.{WriteAccepts, SplitComesBack}
 use Rattle.claims.specs.LookUps.{TableThere, FindAfterRead, ValueAfterRead, CheckAfterRead, EntryAfterRead, MissingAfterRead}
 use Rattle.claims.specs.Bench.{BenchHolds}
 use Rattle.claims.specs.Demand3.{AcceptedLeaves, SameText, LeftIsAccepted, LeftIsRead, LeftIsItsOwn, TextTells, TextFits, RefusedFile, ShortBuffers, NotOneIsCall, CallIsNotOne}
-use Rattle.claims.specs.IndentedComments.{IndentedComments}
 use Rattle.claims.specs.Excluded.{SplitsNothing, SplitsTwo, WritesNothing, WritesTwo}
 use Rattle.claims.specs.ExcludedReads.{ReadsNothing, ReadsTwo, NoOneAnswer, CountsOfTable, RefusalOfFile}
 use Rattle.claims.specs.ExcludedNormal.{NormalOfNothing, NoCopy, NormalOfReopened, NoFixedText}
@@ -11,7 +10,6 @@ use Rattle.claims.proofs.CallsBack.{write_accepts, split_comes_back}
 use Rattle.claims.proofs.LookedUp.{table_there, find_after_read, value_after_read, check_after_read, entry_after_read, missing_after_read}
 use Rattle.claims.proofs.Bench.{bench_holds}
 use Rattle.claims.proofs.Demand3.{accepted_leaves, same_text, left_is_accepted, left_is_read, left_is_its_own, text_tells, text_fits, refused_file, short_buffers, not_one_is_call, call_is_not_one}
-use Rattle.claims.proofs.IndentedComments.{indented_comments}
 use Rattle.claims.proofs.Excluded.{splits_nothing, splits_two, writes_nothing, writes_two}
 use Rattle.claims.proofs.ExcludedReads.{reads_nothing, reads_two, no_one_answer, counts_of_table, refusal_of_file}
 use Rattle.claims.proofs.ExcludedNormal.{normal_of_nothing, no_copy, normal_of_reopened, no_fixed_text}
@@ -72,9 +70,6 @@ not-refused-with-1-is-long = not_one_is_call
 
 pub long-is-not-refused-with-1 : CallIsNotOne
 long-is-not-refused-with-1 = call_is_not_one
-
-pub comments_may_be_indented : IndentedComments
-comments_may_be_indented = indented_comments
 
 pub bench_cases_hold : BenchHolds
 bench_cases_hold = bench_holds

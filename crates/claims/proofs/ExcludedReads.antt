@@ -15,7 +15,7 @@ use Rattle.claims.specs.ReadCalls.{ReadCall}
 use Rattle.claims.specs.ExcludedReads.{ReadsNothing, two_sections, ReadsTwo, NoOneAnswer, CountsOfTable, RefusalOfFile}
 
 module _ (f : Bytes) (r : ReadAnswer) (c : ReadCall f r) where
-  pub decided : read_in (length c.text) (length c.sections) (length c.entries) f ≡ verdict f
+  decided : read_in (length c.text) (length c.sections) (length c.entries) f ≡ verdict f
   decided = enough_space_decides _ _ _ f c.text_size c.sections_size c.entries_size
 
   answered : (o : Outcome Table) → verdict f ≡ o → read_means r ≡ counted o

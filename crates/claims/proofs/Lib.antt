@@ -12,8 +12,6 @@ pub mod Demand3
 pub mod FileTexts
 pub mod Twice
 pub mod Alike
--- later changes of the rules
-pub mod IndentedComments
 -- the bench cases
 pub mod Bench
 -- wrong programs that the promises rule out

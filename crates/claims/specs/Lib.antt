@@ -4,8 +4,6 @@ pub mod RoundTrip
 pub mod LookUps
 pub mod Demand3
 pub mod TwoTexts
--- later changes of the rules
-pub mod IndentedComments
 -- the bench cases
 pub mod Bench
 -- wrong programs that the promises rule out

@@ -23,13 +23,6 @@ pub fn cursors() {
     call(b"empty line", b"\nK=a", 0, 1, 4096);
 }
 
-// Comments behind blanks.
-pub fn indented() {
-    call(b"indented comments", b" #x\n\t;y\nK=a\n", 0, 1, 4096);
-    call(b"past an indented comment", b"a\\\n #x\n", 0, 1, 4096);
-    call(b"inside a line, before #", b"a #x\nb\n", 1, 1, 4096);
-}
-
 // Buffers of other lengths.
 pub fn buffers() {
     let file = b"K=a\nJ=b\n";

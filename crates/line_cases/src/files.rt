@@ -36,45 +36,6 @@ pub fn comments() {
     );
 }
 
-// Comments behind blanks, alone and inside joined lines, and # that opens none.
-pub fn indented() {
-    case(b"tabs and spaces before #", b"\t  \t#x\na\n");
-    long_case(b"5000 blanks before #", b"", b' ', 5000, b"#x\na");
-    case(b"indented comment ending in a backslash", b" #x\\\nK=a\n");
-    case(b"indented comment in a joined line", b"a\\\n\t ;x\nb\n");
-    case(
-        b"indented comments in a joined line",
-        b"a\\\n #x\\\n\t;y\n  #z\\\n b\nc\n",
-    );
-    case(
-        b"a backslash, then an indented comment without LF",
-        b"\\\n #x=1",
-    );
-    case(
-        b"a line of blanks, then an indented comment",
-        b"a\\\n \t\n #x\nb\n",
-    );
-    case(b"# behind another byte in a joined line", b"K=a\\\n b #c\n");
-    case(
-        b"no-break space before # in a joined line",
-        b"a\\\n\xC2\xA0#x\n",
-    );
-    long_case(
-        b"4096 bytes around an indented comment",
-        b"",
-        b'a',
-        4094,
-        b"\\\n #x\nb",
-    );
-    long_case(
-        b"4097 bytes around an indented comment",
-        b"",
-        b'a',
-        4095,
-        b"\\\n #x\nb",
-    );
-}
-
 // Where a joined line goes on and where it ends.
 pub fn joining() {
     case(b"joined at the end, LF", b"a\\\n");

@@ -6,12 +6,10 @@ mod files;
 fn main() {
     files::bench();
     files::comments();
-    files::indented();
     files::joining();
     files::backslashes();
     files::lengths();
     calls::cursors();
-    calls::indented();
     calls::buffers();
     calls::long_lines();
 }

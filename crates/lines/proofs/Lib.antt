@@ -23,17 +23,11 @@ pub mod Totals
 pub mod Appending
 pub mod Whole
 pub mod Legal
--- comments, and blanks before them
-pub mod Comments
-pub mod LineEnds
-pub mod CheckedParts
-pub mod Indents
 -- the joiner
 pub mod CursorSteps
 pub mod Pieces
 pub mod Walk
 pub mod Reading
 pub mod Promises
--- what specs/Laws.antt and specs/CommentLaws.antt state
+-- what specs/Laws.antt states
 pub mod Laws
-pub mod CommentLaws

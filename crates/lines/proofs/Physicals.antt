@@ -13,11 +13,9 @@ use lib.Dec.{eqb}
 use borrow.Author.Tests.{eqb-true}
 use Rattle.lines.specs.Laws.{no_lf}
 use Rattle.lines.specs.Bytes.{Bytes, blank, is_lf, all, line_feeds}
-use Rattle.lines.specs.Trim.{trim_start}
-use Rattle.lines.specs.Lines.{Line, prepend, physical, marked, comment}
+use Rattle.lines.specs.Lines.{Line, prepend, physical, comment}
 use Rattle.lines.specs.LineSteps.{line_length}
 use Rattle.lines.proofs.Bools.{by_cases, and_left, and_right, not_true}
-use Rattle.lines.proofs.Trimming.{trim_start_nonblank}
 
 -- the line of number n and bytes l that starts at offset a and is ended by LF
 abbrev pub shut_line : ℕ → ℕ → Bytes → Line
@@ -134,27 +132,17 @@ module _ (f : Bytes) (i : ℕ) where
 
 -- ---- comments
 
--- the first byte that is no blank decides, 0 standing for none
-pub comment_first : (l : Bytes) → comment l ≡ (eqb (get_or (trim_start l) 0 0) 0x23 || eqb (get_or (trim_start l) 0 0) 0x3B)
+-- the first byte decides, 0 standing for none
+pub comment_first : (l : Bytes) → comment l ≡ (eqb (get_or l 0 0) 0x23 || eqb (get_or l 0 0) 0x3B)
 unfolding comment
-comment_first l = go (trim_start l)
-  where
-    go : (t : Bytes) → marked t ≡ (eqb (get_or t 0 0) 0x23 || eqb (get_or t 0 0) 0x3B)
-    go [] = unfold marked in refl
-    go (b ∷ bs) = unfold marked in refl
-
--- no line at all is none
-pub comment_nil : comment [] ≡ false
-unfolding comment marked trim_start
-comment_nil = refl
+comment_first [] = refl
+comment_first (b ∷ bs) = refl
 
 -- the LF behind a line does not make it a comment
 pub comment_line : (l rest : Bytes) → comment (l ++ 0x0A ∷ rest) ≡ comment l
-unfolding comment marked trim_start
-comment_line [] rest = refl
-comment_line (b ∷ bs) rest = by_cases (blank b) (λ e. rw e (comment_line bs rest)) (λ e. rw e)
+comment_line [] rest = comment_first (0x0A ∷ rest) ∙ sym (comment_first [])
+comment_line (b ∷ bs) rest = comment_first (b ∷ bs ++ 0x0A ∷ rest) ∙ sym (comment_first (b ∷ bs))
 
 -- whatever follows it
 pub no_comment : (b : ℕ) (bs : Bytes) → blank b ≡ false → eqb b 0x23 ≡ false → eqb b 0x3B ≡ false → comment (b ∷ bs) ≡ false
-unfolding comment marked
-no_comment b bs k h c = ap marked (trim_start_nonblank b bs k) ∙ rw (h, c)
+no_comment b bs k h c = comment_first (b ∷ bs) ∙ rw (h, c)

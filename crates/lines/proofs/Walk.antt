@@ -16,7 +16,7 @@ use Rattle.lines.specs.declared.joiner.Physical.{Physical}
 use Rattle.lines.specs.declared.joiner.Piece.{Piece}
 use Rattle.lines.proofs.Buffers.{filled_put}
 use Rattle.lines.proofs.Bools.{by_cases}
-use Rattle.lines.proofs.Physicals.{open_line, comment_nil}
+use Rattle.lines.proofs.Physicals.{open_line, comment_first}
 use Rattle.lines.proofs.Joining.{waiting, joined_nil, waiting_start, waiting_ends, waiting_more, waiting_first, joined-comment, piece-comment, piece-length}
 use Rattle.lines.proofs.CursorSteps.{onward_here, onward_more, onward_number, bytes_between-length, some_line}
 
@@ -40,7 +40,7 @@ lines_none f c h = rw (drop_of_length-le f h) joined_nil
 -- ---- skipping comments
 
 pub comment_over : (f : Bytes) (i : ℕ) → length f ≤ i → comment (drop i f) ≡ false
-comment_over f i h = rw (drop_of_length-le f h) comment_nil
+comment_over f i h = rw (drop_of_length-le f h) (comment_first [])
 
 pub skip_more : (f : Bytes) (c : Cursor) (p : Physical) → PhysicalAt f c p → comment (drop c.offset f) ≡ true → lines_at f c ≡ lines_at f p.next
 unfolding lines_at

@@ -2,8 +2,8 @@
 pub mod Bytes
 pub mod Text
 pub mod Utf8
-pub mod Trim
 pub mod Lines
+pub mod Trim
 -- what the public functions answer
 pub mod Answers
 pub mod Files
@@ -11,7 +11,6 @@ pub mod Buffers
 pub mod Cursors
 -- what the crates above rest on
 pub mod Laws
-pub mod CommentLaws
 -- cited by no public promise
 pub mod CharSteps
 pub mod LineSteps

@@ -2,7 +2,6 @@
 use Rattle.std.specs.Prelude.{ℕ, zero, suc, Bool, false, not, ◌||◌, cond, List, [], ◌∷◌, ◌++◌, length, eqb, ltb}
 use Rattle.std.proofs.Math.Option.{Option, none, some}
 use Rattle.lines.specs.Bytes.{Bytes, is_lf, all}
-use Rattle.lines.specs.Trim.{trim_start}
 
 -- A physical or a logical line: the number of the (first) physical line that it is made of, its bytes,
 -- and the offset just after the LF that ends it, none where the file's end does.
@@ -31,19 +30,10 @@ physical n a (b ∷ bs) =
 
 -- ---- comment lines
 
--- the mark of a comment: # or ;
-abbrev pub comment_mark : ℕ → Bool
-comment_mark b = eqb b 0x23 || eqb b 0x3B
-
--- the first byte is such a mark
-unfoldable pub marked : Bytes → Bool
-marked [] = false
-marked (b ∷ bs) = comment_mark b
-
--- a comment line is one whose first byte that is no blank is # or ;
+-- its first byte is # or ;
 unfoldable pub comment : Bytes → Bool
-unfolding marked trim_start
-comment l = marked (trim_start l)
+comment [] = false
+comment (b ∷ bs) = eqb b 0x23 || eqb b 0x3B
 
 -- ---- continued lines
 

@@ -3,8 +3,6 @@ ghost use Rattle.std.specs.Prelude.{◌≡◌, ◌+◌, drop};
 ghost use Rattle.lines.specs.Lines.{comment, continued};
 ghost use Rattle.lines.specs.LineSteps.{line_length};
 
-use crate::bytes::trim_start;
-
 // The offset of the first LF from `at` on, or the file's end.
 pub fn line_end(file: &[u8], at: usize) -> usize
     ensures { result ≡ at + line_length (drop at file.now) }
@@ -23,11 +21,10 @@ pub fn line_end(file: &[u8], at: usize) -> usize
 pub fn is_comment(text: &[u8]) -> bool
     ensures { result ≡ comment text.now }
 {
-    let rest = trim_start(text);
-    if rest.len() == 0 {
+    if text.len() == 0 {
         return false;
     }
-    let b = rest[0];
+    let b = text[0];
     b == b'#' || b == b';'
 }
 

@@ -19,6 +19,5 @@ pub mod TakingLines
 pub mod ReadingLines
 pub mod ReadingAll
 pub mod ReadCalls
--- what specs/Laws.antt and specs/FileLaws.antt state
+-- what specs/Laws.antt states
 pub mod Laws
-pub mod FileLaws

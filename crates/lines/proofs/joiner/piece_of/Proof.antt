@@ -13,7 +13,7 @@ is-comment-requires c κs = search rules
 returns : tie.Need-returns
 returns c =
     let l = c.before.before.before.args.line.now in
-    let t = piece-comment l (sym c.before.is_comment.ensures ∙ c.if1.true) in
+    let t = piece-comment l (sym c.before.is-comment.ensures ∙ c.if1.true) in
     record { length_is = sym (ap length t.0); ends_is = sym t.1 }
 
 is-continued-requires : tie.Need-is-continued-requires
@@ -22,7 +22,7 @@ is-continued-requires c κs = search rules
 returns-2 : tie.Need-returns-2
 returns-2 c =
     let l = c.before.before.before.before.args.line.now in
-    let e = sym c.before.before.is_comment.ensures ∙ c.before.if1.false in
+    let e = sym c.before.before.is-comment.ensures ∙ c.before.if1.false in
     record { length_is = sym (piece-length l e); ends_is = ap not c.is-continued.ensures ∙ sym (ends_line l e) }
 
 pub piece-of-spec : {M : Type 1} → statement M

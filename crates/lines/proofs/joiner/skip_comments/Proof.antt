@@ -43,7 +43,7 @@ returns c =
     record {
       onward = l.invariant.0;
       lines = l.invariant.2;
-      stands = ap comment (sym (part_from l.c.offset f)) ∙ sym c.before.is_comment.ensures ∙ not-true _ c.if2.true;
+      stands = ap comment (sym (part_from l.c.offset f)) ∙ sym c.before.is-comment.ensures ∙ not-true _ c.if2.true;
     }
 
 physical-line-requires : tie.Need-physical-line-requires invariant-loop decreases-loop
@@ -59,7 +59,7 @@ loop-again c =
     let f = c.before.before.before.before.before.before.before.before.before.args.file.now in
     let l = c.before.before.before.before.before.before.before.loop in
     let p = c.before.physical-line in
-    let t = skip_more f l.c p.result p.ensures (ap comment (sym (part_from l.c.offset f)) ∙ sym c.before.before.before.is_comment.ensures ∙ not-false _ c.before.before.if2.false) in
+    let t = skip_more f l.c p.result p.ensures (ap comment (sym (part_from l.c.offset f)) ∙ sym c.before.before.before.is-comment.ensures ∙ not-false _ c.before.before.if2.false) in
     (onward_more f _ l.c p.result.next l.invariant.0 p.ensures.onward, onward_number f l.c p.result.next l.invariant.1 p.ensures.onward, l.invariant.2 ∙ t)
 
 returns-2 : tie.Need-returns-2 invariant-loop decreases-loop
