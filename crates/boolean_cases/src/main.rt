@@ -1,4 +1,5 @@
 // Cases of booleans: each prints its text and the answer. tests/expected_values.py has the same list.
+#![tactic(auto)]
 mod odd;
 mod show;
 mod words;

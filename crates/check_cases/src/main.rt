@@ -1,5 +1,6 @@
 // Cases of the check of a whole file, refusals 2, 3 and 4: each prints its name and what reading gives.
 // tests/expected.py has the same list.
+#![tactic(auto)]
 use listing::{case, long_case, text_case};
 
 // Files of 65,535 bytes and one more or less.

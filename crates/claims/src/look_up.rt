@@ -7,7 +7,7 @@ ghost use Rattle.claims.specs.Steps.{Asks};
 use lookup::{FindAnswer, Which};
 use table::ReadAnswer;
 
-#[derive(Drop)]
+#[derive(Clone, Copy)]
 pub enum LookUpAnswer {
     // The index of the entry, and the length of its value.
     Found { index: usize, length: usize },

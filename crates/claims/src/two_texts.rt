@@ -5,14 +5,14 @@ ghost use Rattle.claims.specs.Steps.{NormalInto, Compares};
 
 use normal_text::NormalAnswer;
 
-#[derive(Drop)]
+#[derive(Clone, Copy)]
 pub enum TwiceAnswer {
     // The lengths of the file's normal text, and of the normal text of that.
     Accepted { length: usize, again: usize },
     Refused(table::Error),
 }
 
-#[derive(Drop)]
+#[derive(Clone, Copy)]
 pub enum AlikeAnswer {
     // Whether the two files hold the same.
     Accepted(bool),

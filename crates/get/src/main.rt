@@ -1,5 +1,6 @@
 // The value of a setting. `get SECTION KEY < FILE` prints the value of the last entry with this section name and key, or
 // `refused N at P`.
+#![tactic(auto)]
 use input::Input;
 use libc::STDERR_FILENO;
 use listing::{print, print_refused, show};

@@ -1,10 +1,11 @@
 // Reads all of standard input into a buffer of the caller's, in however small pieces it arrives.
+#![tactic(auto)]
 ghost use Rattle.std.specs.Prelude.{length};
 ghost use Rattle.input.specs.Inputs.{Inside};
 
 use libc::STDIN_FILENO;
 
-#[derive(Drop)]
+#[derive(Clone, Copy)]
 pub enum Input {
     // All of it, so many bytes at the front of the buffer.
     Whole(usize),

@@ -2,6 +2,7 @@
 // tests/expected_items.py writes the lines and has the rules. A line is
 //     split SIZE COUNT [TEXT]      a text to split, into buffers of so many bytes and ends
 //     write SIZE [BYTES] END ..    items to write, into a buffer of so many bytes
+#![tactic(auto)]
 mod splitting;
 mod writing;
 

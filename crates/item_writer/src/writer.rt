@@ -11,7 +11,7 @@ ghost use Rattle.item_writer.specs.Answers.{Writes};
 use items::Error;
 use lines::{copy_into, is_between, is_digit, is_letter};
 
-#[derive(Drop)]
+#[derive(Clone, Copy)]
 pub enum WriteAnswer {
     // How many bytes the text has.
     Accepted { length: usize },

@@ -3,7 +3,7 @@ ghost use Rattle.std.specs.Prelude.{◌≡◌};
 ghost use Rattle.items.specs.Answers.{number_of, place_of};
 
 // A fault in a text carries its offset.
-#[derive(Drop)]
+#[derive(Clone, Copy)]
 pub enum Error {
     ShortBuffer,
     TextTooLong,

@@ -8,14 +8,14 @@ use crate::error::Error;
 use lines::is_between;
 
 // The number that digits write, or one of them is missing or no digit.
-#[derive(Drop)]
+#[derive(Clone, Copy)]
 pub(crate) enum Number {
     Value(u64),
     Malformed,
 }
 
 // Up to four bytes, as many as `count` says.
-#[derive(Drop)]
+#[derive(Clone, Copy)]
 pub(crate) struct Few {
     pub b0: u8,
     pub b1: u8,
@@ -25,7 +25,7 @@ pub(crate) struct Few {
 }
 
 // An escape is either its bytes or a refusal. It takes `taken` bytes behind its backslash.
-#[derive(Drop)]
+#[derive(Clone, Copy)]
 pub(crate) enum Escape {
     Bytes { bytes: Few, taken: usize },
     Refused(Error),

@@ -1,4 +1,5 @@
 // Lists of items in the text of a setting.
+#![tactic(auto)]
 mod error;
 mod escapes;
 mod pieces;

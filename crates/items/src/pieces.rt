@@ -9,14 +9,14 @@ use crate::escapes::{Escape, Few, escape_error, one, read_escape};
 use lines::is_blank;
 
 // The kind of item that is being read: bare, or in quotes of one kind that opened at an offset.
-#[derive(Drop)]
+#[derive(Clone, Copy)]
 pub(crate) enum Mode {
     Bare,
     Quoted { kind: u8, opening: usize },
 }
 
 // What stands at an offset inside an item.
-#[derive(Drop)]
+#[derive(Clone, Copy)]
 pub(crate) enum Piece {
     // Bytes of the item, and where the next piece stands.
     Bytes { bytes: Few, next: usize },

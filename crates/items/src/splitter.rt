@@ -11,7 +11,7 @@ use crate::escapes::Few;
 use crate::pieces::{Mode, Piece, is_quote, piece_at};
 use lines::is_blank;
 
-#[derive(Drop)]
+#[derive(Clone, Copy)]
 pub enum SplitAnswer {
     // How many items, and how many bytes they have together.
     Accepted { count: usize, length: usize },
@@ -19,7 +19,7 @@ pub enum SplitAnswer {
 }
 
 // Each reading step finds an item, the end, or one of the refusals.
-#[derive(Drop)]
+#[derive(Clone, Copy)]
 enum Step {
     // Where reading goes on, and how many bytes the buffer then holds.
     Item { next: usize, size: usize },

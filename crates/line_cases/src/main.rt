@@ -1,4 +1,5 @@
 // Cases of lines: each prints its name and what the joiner gives. tests/expected.py has the same list.
+#![tactic(auto)]
 mod call;
 mod calls;
 mod files;

@@ -3,7 +3,7 @@ ghost use Rattle.std.specs.Prelude.{◌≡◌};
 ghost use Rattle.lines.specs.Answers.{number_of, place_of};
 
 // A fault in a line carries the line's number.
-#[derive(Drop)]
+#[derive(Clone, Copy)]
 pub enum Error {
     ShortBuffer,
     FileTooLong,

@@ -7,7 +7,7 @@ use crate::bytes::{is_between, is_control};
 use crate::error::Error;
 use crate::utf8::long_length;
 
-#[derive(Drop)]
+#[derive(Clone, Copy)]
 pub enum Check {
     Accepted,
     Refused(Error),

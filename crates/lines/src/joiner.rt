@@ -9,7 +9,7 @@ use crate::error::Error;
 use crate::physical::{is_comment, is_continued, line_end};
 
 // Where reading goes on: an offset of the file, and the number of its line.
-#[derive(Drop)]
+#[derive(Clone, Copy)]
 pub struct Cursor {
     pub offset: usize,
     pub line: usize,
@@ -24,7 +24,7 @@ impl Cursor {
     }
 }
 
-#[derive(Drop)]
+#[derive(Clone, Copy)]
 pub enum Next {
     // The line's length, the number of its first physical line, and where to go on.
     Found {
@@ -38,21 +38,21 @@ pub enum Next {
 }
 
 // The end of a physical line, without its LF, and where the next one starts.
-#[derive(Drop)]
+#[derive(Clone, Copy)]
 struct Physical {
     end: usize,
     next: Cursor,
 }
 
 // How many bytes a physical line gives to its logical line, and whether it ends that one.
-#[derive(Drop)]
+#[derive(Clone, Copy)]
 struct Piece {
     length: usize,
     ends: bool,
 }
 
 // A logical line's length, and where the next one starts.
-#[derive(Drop)]
+#[derive(Clone, Copy)]
 struct Measured {
     length: usize,
     next: Cursor,

@@ -1,4 +1,5 @@
 // Settings files, from bytes to logical lines.
+#![tactic(auto)]
 mod bytes;
 mod error;
 mod file;

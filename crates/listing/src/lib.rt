@@ -1,5 +1,6 @@
 // Prints answers, what the check of a file and its reading line by line give, and the texts of test cases; and reads
 // cases that stand in standard input.
+#![tactic(auto)]
 mod cases;
 pub mod notation;
 pub mod show;
@@ -58,7 +59,7 @@ fn print_line(first: usize, buffer: &[u8], length: usize, most: usize) {
     print(b"\n");
 }
 
-#[derive(Drop)]
+#[derive(Clone, Copy)]
 enum Step {
     Go(Cursor),
     Stop,

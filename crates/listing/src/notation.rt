@@ -55,7 +55,7 @@ pub fn line_at(text: &[u8], at: usize) -> &[u8]
 
 // ---- numbers
 
-#[derive(Drop)]
+#[derive(Clone, Copy)]
 pub struct Number {
     pub value: usize,
     // How many bytes it takes.
@@ -125,7 +125,7 @@ pub fn lay_numbers(line: &[u8], numbers: &mut [usize]) -> usize {
 // ---- bytes
 
 // A byte that stands once or more often, and how many bytes of the line say so; none where they make no sense.
-#[derive(Drop)]
+#[derive(Clone, Copy)]
 struct Piece {
     byte: u8,
     count: usize,
@@ -199,7 +199,7 @@ fn read_run(text: &[u8], byte: u8) -> Piece
     no_piece()
 }
 
-#[derive(Drop)]
+#[derive(Clone, Copy)]
 pub struct Laid {
     pub length: usize,
     // How many bytes of the line it takes, 0 where they make no sense or the buffer is too small.

@@ -11,13 +11,13 @@ use crate::error::Error;
 use crate::records::holds_table;
 
 // Which of several entries is asked for.
-#[derive(Drop)]
+#[derive(Clone, Copy)]
 pub enum Which {
     First,
     Last,
 }
 
-#[derive(Drop)]
+#[derive(Clone, Copy)]
 pub enum FindAnswer {
     // The index of the entry.
     Found(usize),

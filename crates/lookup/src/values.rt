@@ -8,7 +8,7 @@ ghost use Rattle.lookup.specs.declared.values.ValueAnswer.TheVariants.{Accepted}
 use crate::error::Error;
 use crate::records::holds_table;
 
-#[derive(Drop)]
+#[derive(Clone, Copy)]
 pub enum ValueAnswer {
     // Where the value stands in the text.
     Accepted { start: usize, length: usize },

@@ -13,7 +13,7 @@ const SECTIONS: usize = 300;
 const ENTRIES: usize = 3000;
 
 // What is asked.
-#[derive(Drop)]
+#[derive(Clone, Copy)]
 enum Question {
     Find(Which),
     Value(usize),

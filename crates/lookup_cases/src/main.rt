@@ -5,6 +5,7 @@
 //     value INDEX [TEXT] M K: SECTIONS: ENTRIES                   the value of an entry there
 //     read WHICH [SECTION] [KEY] [FILE]                           an entry to find in the table of a file, and its value
 // WHICH is first or last. SECTIONS and ENTRIES are numbers, each behind a space.
+#![tactic(auto)]
 mod answers;
 mod buffers;
 mod files;

@@ -1,5 +1,6 @@
 // Cases of the normal text, one to a line of standard input. Each prints its line and what comes of it. A line is
 //     normal [FILE] TEXT SECTIONS ENTRIES OUT    a file, and the lengths of the four buffers
+#![tactic(auto)]
 mod calling;
 
 use listing::{notation, show};

@@ -1,4 +1,5 @@
 // The normal text of the file that standard input has.
+#![tactic(auto)]
 use input::Input;
 use listing::{print, print_refused, show};
 use normal_text::NormalAnswer;

@@ -1,4 +1,5 @@
 // The normal text of a settings file.
+#![tactic(auto)]
 mod links;
 mod normal;
 mod writer;

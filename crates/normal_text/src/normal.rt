@@ -9,7 +9,7 @@ use crate::links::link;
 use crate::writer::put_sections;
 use table::{Error, ReadAnswer};
 
-#[derive(Drop)]
+#[derive(Clone, Copy)]
 pub enum NormalAnswer {
     // How many bytes the normal text has; and how many text bytes, sections and entries the table.
     Accepted {

@@ -1,4 +1,5 @@
 // Cases of time spans: each prints its text and the answer. tests/expected_values.py has the same list.
+#![tactic(auto)]
 mod forms;
 mod limits;
 mod long_runs;

@@ -3,7 +3,7 @@ ghost use Rattle.std.specs.Prelude.{◌≡◌};
 ghost use Rattle.table.specs.Answers.{number_of, place_of};
 
 // A fault in a line carries the number of the first physical line of it.
-#[derive(Drop)]
+#[derive(Clone, Copy)]
 pub enum Error {
     // A short buffer, a fault of the whole file, or a line that is too long: 1 to 5.
     File(lines::Error),

@@ -10,7 +10,7 @@ use crate::state::{State, Step};
 use crate::steps::add_line;
 use lines::{Check, Cursor, Next};
 
-#[derive(Drop)]
+#[derive(Clone, Copy)]
 pub enum ReadAnswer {
     // How many text bytes, sections and entries there are.
     Accepted {
@@ -32,13 +32,13 @@ const ENTRY_NUMBERS: usize = 2560;
 const ORDER_NUMBERS: usize = 128;
 
 // Where reading goes on, and what the table has.
-#[derive(Drop)]
+#[derive(Clone, Copy)]
 struct Progress {
     cursor: Cursor,
     state: State,
 }
 
-#[derive(Drop)]
+#[derive(Clone, Copy)]
 enum Turn {
     Go(Progress),
     // No line is left.

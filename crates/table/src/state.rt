@@ -7,7 +7,7 @@ use crate::error::Error;
 
 // How much of the buffers is used: text bytes, sections and entries; and the section that is open: 0 before any header,
 // else one more than its index.
-#[derive(Drop)]
+#[derive(Clone, Copy)]
 pub(crate) struct State {
     pub text: usize,
     pub sections: usize,
@@ -30,7 +30,7 @@ impl State {
 }
 
 // A line goes into the table, or is refused.
-#[derive(Drop)]
+#[derive(Clone, Copy)]
 pub(crate) enum Step {
     Go(State),
     Refused(Error),

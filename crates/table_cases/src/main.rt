@@ -1,6 +1,7 @@
 // Cases of tables, one to a line of standard input. Each prints its line and what comes of it.
 // tests/expected_table.py writes the lines and has the rules. A line is
 //     read TEXT SECTIONS ENTRIES [FILE]    a file to read, into buffers of so many bytes and numbers
+#![tactic(auto)]
 mod reading;
 
 use listing::{notation, show};

@@ -10,7 +10,7 @@ const SECTIONS: usize = 140;
 const ENTRIES: usize = 2600;
 
 // The lengths of the three buffers.
-#[derive(Drop)]
+#[derive(Clone, Copy)]
 struct Sizes {
     text: usize,
     sections: usize,

@@ -2,7 +2,7 @@
 ghost use Rattle.std.specs.Prelude.{ℕ, ◌+◌, ◌*◌, ◌<◌};
 ghost use Rattle.values.specs.Steps.{Stands};
 
-#[derive(Drop)]
+#[derive(Clone, Copy)]
 pub(crate) enum Amount {
     Exact(u64),
     TooLarge,

@@ -6,7 +6,7 @@ ghost use Rattle.values.specs.Answers.{boolean_means};
 use crate::error::Error;
 use lines::same;
 
-#[derive(Drop)]
+#[derive(Clone, Copy)]
 pub enum BooleanAnswer {
     Accepted(bool),
     Refused(Error),

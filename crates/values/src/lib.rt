@@ -1,4 +1,5 @@
 // Values of settings: booleans and time spans.
+#![tactic(auto)]
 mod amount;
 mod booleans;
 mod error;

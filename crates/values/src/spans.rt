@@ -10,7 +10,7 @@ use crate::amount::{Amount, plus, push, times};
 use crate::error::Error;
 use lines::{is_digit, is_letter, same};
 
-#[derive(Drop)]
+#[derive(Clone, Copy)]
 pub enum SpanAnswer {
     // Microseconds.
     Accepted(u64),
@@ -18,7 +18,7 @@ pub enum SpanAnswer {
 }
 
 // The number that the digits at the start of a text write, 0 where there are none, and how many these are.
-#[derive(Drop)]
+#[derive(Clone, Copy)]
 struct Number {
     amount: Amount,
     digits: usize,
@@ -36,20 +36,20 @@ const DAY: u64 = 24 * HOUR;
 const WEEK: u64 = 7 * DAY;
 
 // What the name of a unit stands for.
-#[derive(Drop)]
+#[derive(Clone, Copy)]
 enum Scale {
     Microseconds(u64),
     Unknown,
 }
 
-#[derive(Drop)]
+#[derive(Clone, Copy)]
 enum NextPart {
     // How many microseconds it adds, and how many bytes it takes with the blanks behind it.
     Found { amount: Amount, length: usize },
     Malformed,
 }
 
-#[derive(Drop)]
+#[derive(Clone, Copy)]
 enum Sum {
     Total(Amount),
     Malformed,
