@@ -10,7 +10,7 @@ use borrow.Author.Tests.{le-leb, not-false}
 use Rattle.lines.specs.Bytes.{Bytes}
 use Rattle.lines.specs.Lines.{comment, continued, spaced}
 use Rattle.lines.specs.Buffers.{put}
-use Rattle.lines.specs.LineSteps.{piece, ends, PieceOf}
+use Rattle.lines.specs.LineSteps.{piece, PieceOf}
 use Rattle.lines.specs.declared.joiner.Piece.{Piece}
 use Rattle.lines.proofs.Buffers.{put_nil, set-put}
 use Rattle.lines.proofs.Bools.{by_cases, not_true}

@@ -1,7 +1,7 @@
 -- UTF-8: bytes below 80 part well-formed bytes, and behind whole characters the rest is judged by itself.
 -- The laws go over the bytes with the ranges that are still to come.
 use mathlib.Core.Path.{◌≡◌, refl, sym, ◌∙◌}
-use Prim.Native.Nat.{ℕ, ◌+◌, ◌≤◌}
+use Prim.Native.Nat.{ℕ, ◌≤◌}
 use native.Mathlib.Omega.{arith}
 use mathlib.Core.Bool.{Bool, true, ◌&&◌}
 use mathlib.Core.Option.{Option, none, some}

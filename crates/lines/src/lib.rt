@@ -1,5 +1,6 @@
 // Settings files, from bytes to logical lines.
 #![tactic(auto)]
+
 mod bytes;
 mod error;
 mod file;
