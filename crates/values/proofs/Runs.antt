@@ -10,7 +10,7 @@ use Rattle.lines.specs.Bytes.{Bytes, blank, all}
 use Rattle.lines.specs.Trim.{trim_start}
 use Rattle.lines.proofs.Bools.{by_cases, is_false}
 use Rattle.lines.proofs.Trimming.{trim_start-blank, trim_start_nonblank, trim_start_nil, length-trim_start}
-use Rattle.values.specs.Spans.{alike, runs, tokens, longest}
+use Rattle.values.specs.Spans.{alike, lengthen, runs, tokens, longest}
 use Rattle.values.proofs.Longest.{longest-all, longest-inside, longest_more}
 use Rattle.values.proofs.Classes.{Class, alike_same, blank_class}
 
@@ -23,7 +23,8 @@ unfolding runs longest
 runs-alike b [] = refl
 runs-alike b (c ∷ cs) =
     by_cases (alike b c)
-    (λ e. rw (e, alike_same b c e, runs-alike c cs))
+    (λ e. let same : longest (alike c) cs ≡ longest (alike b) cs = ap (λ p. longest p cs) (sym (alike_same b c e)) in
+    rw e (ap (lengthen b) (runs-alike c cs) ∙ ap (λ (l : Bytes). (b ∷ c ∷ l) ∷ runs (drop (length l) cs)) same))
     (λ e. rw e)
 
 -- of a text that starts with a byte of a class

@@ -1,5 +1,6 @@
 // Values of settings: booleans and time spans.
 #![tactic(auto)]
+
 mod amount;
 mod booleans;
 mod error;
