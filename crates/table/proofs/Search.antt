@@ -102,11 +102,16 @@ unfolding first_named text_of names records_from index_of
 search_events [] x pre post rest = refl
 search_events (new_section y ∷ es) x pre post rest =
     let s : pre ++ ((y ++ text_of es) ++ post) ≡ pre ++ (y ++ (text_of es ++ post)) = ap (λ (l : Bytes). pre ++ l) (append_assoc y (text_of es) post) in
-    let p : pre ++ (y ++ (text_of es ++ post)) ≡ (pre ++ y) ++ (text_of es ++ post) = sym (append_assoc pre y (text_of es ++ post)) in
+    let q : is_named x (pre ++ (text_of (new_section y ∷ es) ++ post)) (length pre) (length y) ≡ equal x y = ap (λ (l : Bytes). is_named x l (length pre) (length y)) s ∙ named_part x pre y (text_of es ++ post) in
+    let r : pre ++ (text_of (new_section y ∷ es) ++ post) ≡ (pre ++ y) ++ (text_of es ++ post) = regrouped pre y (text_of es) post in
     by_cases (equal x y)
-    (λ e. rw (s, named_part x pre y (text_of es ++ post), e))
-    (λ e. rw (s, named_part x pre y (text_of es ++ post), e, p, ← length-append pre y, search_events es x (pre ++ y) post rest)
-    (index_later (length (names es)) (index_of x (names es))))
+    (λ e. rw (q, e))
+    (λ e. rw (q, e)
+    (ap suc
+    (ap (λ (l : Bytes). first_named x l (length (names es)) (records_from section_record (length pre + length y) es ++ rest)) r
+    ∙ ap (λ (n : ℕ). first_named x ((pre ++ y) ++ (text_of es ++ post)) (length (names es)) (records_from section_record n es ++ rest)) (sym (length-append pre y))
+    ∙ search_events es x (pre ++ y) post rest)
+    ∙ index_later (length (names es)) (index_of x (names es))))
 search_events (new_entry f ∷ es) x pre post rest =
     let y : Bytes = f.key ++ f.value in
     rw (regrouped pre y (text_of es) post, ← length-append pre y) (search_events es x (pre ++ y) post rest)

@@ -1,5 +1,6 @@
 // The table of a settings file: sections and entries, from the file's bytes.
 #![tactic(auto)]
+
 mod error;
 mod kinds;
 mod order;
