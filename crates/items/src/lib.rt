@@ -1,5 +1,6 @@
 // Lists of items in the text of a setting.
 #![tactic(auto)]
+
 mod error;
 mod escapes;
 mod pieces;
