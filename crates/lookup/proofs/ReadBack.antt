@@ -36,8 +36,8 @@ unfolding names_in names records_from text_of followed
 names_back [] p r more = refl
 names_back (new_section x ∷ es) p r more =
     let t : p ++ ((x ++ text_of es) ++ r) ≡ p ++ (x ++ (text_of es ++ r)) = simp append_assoc in
-    let i : names_in (p ++ (x ++ (text_of es ++ r))) (length (names es)) (records_from section_record (length p + length x) es ++ more) ≡ some (names es) =
-    rw (← append_assoc p x (text_of es ++ r), ← length-append p x) (names_back es (p ++ x) r more) in
+    let i : names_in (p ++ ((x ++ text_of es) ++ r)) (length (names es)) (records_from section_record (length p + length x) es ++ more) ≡ some (names es) =
+    rw (t, ← append_assoc p x (text_of es ++ r), ← length-append p x) (names_back es (p ++ x) r more) in
     rw (t, part_at p x (text_of es ++ r), inside_at p x (text_of es ++ r)) (ap (followed true x) i)
 names_back (new_entry e ∷ es) p r more =
     let y : Bytes = e.key ++ e.value in
@@ -84,8 +84,8 @@ entries_back (new_entry e ∷ es) m p r more h =
     let y : Bytes = e.key ++ e.value in
     let t : p ++ ((y ++ text_of es) ++ r) ≡ whole e p (text_of es ++ r) = ap (λ (l : Bytes). p ++ l) (append_assoc y (text_of es) r) in
     let u : whole e p (text_of es ++ r) ≡ (p ++ y) ++ (text_of es ++ r) = sym (append_assoc p y (text_of es ++ r)) in
-    let i : entries_in (whole e p (text_of es ++ r)) m (length (entries es)) (records_from entry_record (length p + length y) es ++ more) ≡ some (entries es) =
-    rw (u, ← length-append p y) (entries_back es m (p ++ y) r more h.1) in
+    let i : entries_in (p ++ ((y ++ text_of es) ++ r)) m (length (entries es)) (records_from entry_record (length p + length y) es ++ more) ≡ some (entries es) =
+    rw (t, u, ← length-append p y) (entries_back es m (p ++ y) r more h.1) in
     rw (t, key_part e p (text_of es ++ r), value-part e p (text_of es ++ r), key_inside e p (text_of es ++ r), value-inside e p (text_of es ++ r), lt-ltb e.section m h.0)
     (ap (followed true e) i)
 

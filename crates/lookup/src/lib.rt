@@ -1,5 +1,6 @@
 // Look-up in the table that stands in buffers: of any size, with any numbers in them, and any counts.
 #![tactic(auto)]
+
 mod error;
 mod records;
 mod search;
