@@ -1,5 +1,6 @@
 // The normal text of a settings file.
 #![tactic(auto)]
+
 mod links;
 mod normal;
 mod writer;
