@@ -1,5 +1,6 @@
 // Lists of items written as the text of a setting.
 #![tactic(auto)]
+
 mod writer;
 
 pub use writer::{WriteAnswer, write};
