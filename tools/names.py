@@ -154,7 +154,7 @@ def replace(text, table, skip):
         return table.get(w, w)
 
     # strings keep their names
-    parts = re.split(r'("(?:[^"\\\\]|\\\\.)*")', text)
+    parts = re.split(r'("(?:[^"\\]|\\.)*")', text)
     return "".join(p if i % 2 else TOKEN.sub(sub, p) for i, p in enumerate(parts))
 
 

@@ -54,11 +54,11 @@ abbrev pub bench_rows : List Row
 bench_rows =
     file 1 "" no_section
     ∷ file 2 "K=1" (refused 9 1)
-    ∷ file 3 "[A]\nK=a\\\\\nJ=b" (oneSection "A" (entry "K" "a\\\\" ∷ entry "J" "b" ∷ []) "[A]\nK=a\\\\\nJ=b\n")
-    ∷ file 4 "[A]\nK=a\\\n" (oneSection "A" (entry "K" "a" ∷ []) "[A]\nK=a\n")
-    ∷ file 5 "[A]\nK=a\\\n\nJ=b" (oneSection "A" (entry "K" "a" ∷ entry "J" "b" ∷ []) "[A]\nK=a\nJ=b\n")
-    ∷ file 6 "[A]\nK=a\\\n#x\\\nb" (oneSection "A" (entry "K" "a b" ∷ []) "[A]\nK=a b\n")
-    ∷ file 7 "[A]\n K = a=b " (oneSection "A" (entry "K" "a=b" ∷ []) "[A]\nK=a=b\n")
+    ∷ file 3 "[A]\nK=a\\\\\nJ=b" (one_section "A" (entry "K" "a\\\\" ∷ entry "J" "b" ∷ []) "[A]\nK=a\\\\\nJ=b\n")
+    ∷ file 4 "[A]\nK=a\\\n" (one_section "A" (entry "K" "a" ∷ []) "[A]\nK=a\n")
+    ∷ file 5 "[A]\nK=a\\\n\nJ=b" (one_section "A" (entry "K" "a" ∷ entry "J" "b" ∷ []) "[A]\nK=a\nJ=b\n")
+    ∷ file 6 "[A]\nK=a\\\n#x\\\nb" (one_section "A" (entry "K" "a b" ∷ []) "[A]\nK=a b\n")
+    ∷ file 7 "[A]\n K = a=b " (one_section "A" (entry "K" "a=b" ∷ []) "[A]\nK=a=b\n")
     ∷ split 8 "\"a b\" c \"\"" (accepted (bytes "a b" ∷ bytes "c" ∷ bytes "" ∷ []))
     ∷ split 9 "a\"b" (refused 22 1)
     ∷ split 10 "\"a\"b" (refused 22 3)

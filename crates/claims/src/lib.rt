@@ -1,5 +1,6 @@
 // What the demands say of several calls, as functions that make them.
 #![tactic(auto)]
+
 mod look_up;
 mod round_trip;
 mod two_texts;

@@ -7,8 +7,7 @@ use normal_text::NormalAnswer;
 use table::ReadAnswer;
 
 // The length of the longest well-formed start of a text.
-#[unsafe(no_mangle)]
-pub extern "C" fn havtsulen_well_formed_length(text: &[u8], report: &mut [usize]) -> usize
+pub fn havtsulen_well_formed_length(text: &[u8], report: &mut [usize]) -> usize
     ensures { ReportsWellFormedLength text.now report.old result report.new }
 {
     if report.len() < REPORT_NUMBERS {
@@ -18,8 +17,7 @@ pub extern "C" fn havtsulen_well_formed_length(text: &[u8], report: &mut [usize]
 }
 
 // What is judged of a whole file: its size, UTF-8, control bytes.
-#[unsafe(no_mangle)]
-pub extern "C" fn havtsulen_check_file(file: &[u8], report: &mut [usize]) -> usize
+pub fn havtsulen_check_file(file: &[u8], report: &mut [usize]) -> usize
     ensures { ReportsCheckFile file.now report.old result report.new }
 {
     if report.len() < REPORT_NUMBERS {
@@ -32,8 +30,7 @@ pub extern "C" fn havtsulen_check_file(file: &[u8], report: &mut [usize]) -> usi
 }
 
 // The table of a file.
-#[unsafe(no_mangle)]
-pub extern "C" fn havtsulen_read(
+pub fn havtsulen_read(
     file: &[u8],
     text: &mut [u8],
     sections: &mut [usize],
@@ -56,8 +53,7 @@ pub extern "C" fn havtsulen_read(
 }
 
 // The normal text of a file.
-#[unsafe(no_mangle)]
-pub extern "C" fn havtsulen_normal_text(
+pub fn havtsulen_normal_text(
     file: &[u8],
     text: &mut [u8],
     sections: &mut [usize],

@@ -6,8 +6,7 @@ use item_writer::WriteAnswer;
 use items::SplitAnswer;
 
 // The items of a text.
-#[unsafe(no_mangle)]
-pub extern "C" fn havtsulen_split(
+pub fn havtsulen_split(
     text: &[u8],
     bytes: &mut [u8],
     ends: &mut [usize],
@@ -25,13 +24,7 @@ pub extern "C" fn havtsulen_split(
 }
 
 // The text of items.
-#[unsafe(no_mangle)]
-pub extern "C" fn havtsulen_write(
-    bytes: &[u8],
-    ends: &[usize],
-    out: &mut [u8],
-    report: &mut [usize],
-) -> usize
+pub fn havtsulen_write(bytes: &[u8], ends: &[usize], out: &mut [u8], report: &mut [usize]) -> usize
     ensures { ReportsWrite bytes.now ends.now out.old report.old result out.new report.new }
 {
     if report.len() < REPORT_NUMBERS {

@@ -1,7 +1,8 @@
 // The library for programs in C, and in whatever calls as C does: each call with numbers and slices alone. A slice is a
 // pointer and a length. Each answers the number of the refusal, 0 where it is accepted, and has a report as its last
-// slice; include/havtsulen.h says what a caller has to know.
+// slice; include/havtsulen.h says what a caller has to know. The crate `havtsulen_c` exports them.
 #![tactic(auto)]
+
 mod files;
 mod item_lists;
 mod questions;

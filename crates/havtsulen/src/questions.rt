@@ -17,8 +17,7 @@ fn which_of(which: usize) -> Which
 }
 
 // The index of the first or the last entry with this section name and key.
-#[unsafe(no_mangle)]
-pub extern "C" fn havtsulen_find(
+pub fn havtsulen_find(
     section: &[u8],
     key: &[u8],
     which: usize,
@@ -50,8 +49,7 @@ pub extern "C" fn havtsulen_find(
 }
 
 // Where the value of the entry with this index stands in the text, or why there is none.
-#[unsafe(no_mangle)]
-pub extern "C" fn havtsulen_value_check(
+pub fn havtsulen_value_check(
     index: usize,
     text: &[u8],
     sections: &[usize],
@@ -72,8 +70,7 @@ pub extern "C" fn havtsulen_value_check(
 }
 
 // The value: start and length of a part of the text; the empty part at its start where `havtsulen_value_check` refuses.
-#[unsafe(no_mangle)]
-pub extern "C" fn havtsulen_value(
+pub fn havtsulen_value(
     index: usize,
     text: &[u8],
     sections: &[usize],

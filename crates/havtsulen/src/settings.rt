@@ -16,8 +16,7 @@ fn truth_number(truth: bool) -> usize
 }
 
 // The truth that a text states.
-#[unsafe(no_mangle)]
-pub extern "C" fn havtsulen_boolean(text: &[u8], report: &mut [usize]) -> usize
+pub fn havtsulen_boolean(text: &[u8], report: &mut [usize]) -> usize
     ensures { ReportsBoolean text.now report.old result report.new }
 {
     if report.len() < REPORT_NUMBERS {
@@ -30,8 +29,7 @@ pub extern "C" fn havtsulen_boolean(text: &[u8], report: &mut [usize]) -> usize
 }
 
 // How many microseconds a text states. A usize has 64 bits, so that every number of them fits.
-#[unsafe(no_mangle)]
-pub extern "C" fn havtsulen_span(text: &[u8], report: &mut [usize]) -> usize
+pub fn havtsulen_span(text: &[u8], report: &mut [usize]) -> usize
     ensures { ReportsSpan text.now report.old result report.new }
 {
     if report.len() < REPORT_NUMBERS {
