@@ -19,7 +19,7 @@ fn main() {
     println!("cargo:rustc-link-lib=static=havtsulen");
 }
 
-/// The folder that is set, or the one that `rt staticlib` writes to.
+/// The folder that is set, or the one that `c/archive` writes to.
 fn folder() -> PathBuf {
     match env::var_os("HAVTSULEN_LIB_DIR") {
         Some(set) => PathBuf::from(set),
@@ -29,6 +29,6 @@ fn folder() -> PathBuf {
 
 fn tell_missing(archive: &Path) {
     eprintln!("The proved library is not there: {}", archive.display());
-    eprintln!("Run `rt staticlib havtsulen` in the root folder of the repository,");
+    eprintln!("Run `c/archive` in the root folder of the repository,");
     eprintln!("or set HAVTSULEN_LIB_DIR to the full path of the folder that has {ARCHIVE}.");
 }

@@ -38,7 +38,7 @@
 //! # What it needs
 //!
 //! Rust 1.82 or later, and the archive `libhavtsulen.a`, which has to be there before the crate is
-//! built: `rt staticlib havtsulen` in the root folder of the repository makes it, or HAVTSULEN_LIB_DIR
+//! built: `c/archive` in the root folder of the repository makes it, or HAVTSULEN_LIB_DIR
 //! names the folder that has it. The archive is for x86-64 Linux, and so is every function here, [`items`]
 //! and [`list`] too: each calls it.
 //!

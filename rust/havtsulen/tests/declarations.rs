@@ -62,7 +62,7 @@ fn source() -> Declarations {
     ["files", "questions", "item_lists", "settings"]
         .iter()
         .flat_map(|module| {
-            let text = repository_file(&format!("crates/havtsulen/src/{module}.rt"));
+            let text = repository_file(&format!("crates/havtsulen_c/src/{module}.rt"));
             let marks = ("#[no_mangle]\npub extern \"C\" fn ", ") -> usize\n");
             declarations(&text, marks, of_source)
         })
