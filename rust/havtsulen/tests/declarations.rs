@@ -63,7 +63,7 @@ fn source() -> Declarations {
         .iter()
         .flat_map(|module| {
             let text = repository_file(&format!("crates/havtsulen_c/src/{module}.rt"));
-            let marks = ("#[no_mangle]\npub extern \"C\" fn ", ") -> usize\n");
+            let marks = ("#[unsafe(no_mangle)]\npub extern \"C\" fn ", ") -> usize\n");
             declarations(&text, marks, of_source)
         })
         .collect()
