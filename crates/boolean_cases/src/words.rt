@@ -1,136 +1,137 @@
 // The eight words, and texts that are close to them.
 use crate::show::{byte_case, case};
+use std::io;
 
-pub fn accepted() {
-    case(b"1");
-    case(b"yes");
-    case(b"true");
-    case(b"on");
-    case(b"0");
-    case(b"no");
-    case(b"false");
-    case(b"off");
+pub fn accepted(rt: &impl Print) -> io::Result<()> {
+    case(rt, b"1")?;
+    case(rt, b"yes")?;
+    case(rt, b"true")?;
+    case(rt, b"on")?;
+    case(rt, b"0")?;
+    case(rt, b"no")?;
+    case(rt, b"false")?;
+    case(rt, b"off")
 }
 
-pub fn upper_case_true() {
-    case(b"Yes");
-    case(b"yEs");
-    case(b"yeS");
-    case(b"YES");
-    case(b"True");
-    case(b"tRue");
-    case(b"trUe");
-    case(b"truE");
-    case(b"TRUE");
-    case(b"On");
-    case(b"oN");
-    case(b"ON");
+pub fn upper_case_true(rt: &impl Print) -> io::Result<()> {
+    case(rt, b"Yes")?;
+    case(rt, b"yEs")?;
+    case(rt, b"yeS")?;
+    case(rt, b"YES")?;
+    case(rt, b"True")?;
+    case(rt, b"tRue")?;
+    case(rt, b"trUe")?;
+    case(rt, b"truE")?;
+    case(rt, b"TRUE")?;
+    case(rt, b"On")?;
+    case(rt, b"oN")?;
+    case(rt, b"ON")
 }
 
-pub fn upper_case_false() {
-    case(b"No");
-    case(b"nO");
-    case(b"NO");
-    case(b"False");
-    case(b"fAlse");
-    case(b"faLse");
-    case(b"falSe");
-    case(b"falsE");
-    case(b"FALSE");
-    case(b"Off");
-    case(b"oFf");
-    case(b"ofF");
-    case(b"OFF");
+pub fn upper_case_false(rt: &impl Print) -> io::Result<()> {
+    case(rt, b"No")?;
+    case(rt, b"nO")?;
+    case(rt, b"NO")?;
+    case(rt, b"False")?;
+    case(rt, b"fAlse")?;
+    case(rt, b"faLse")?;
+    case(rt, b"falSe")?;
+    case(rt, b"falsE")?;
+    case(rt, b"FALSE")?;
+    case(rt, b"Off")?;
+    case(rt, b"oFf")?;
+    case(rt, b"ofF")?;
+    case(rt, b"OFF")
 }
 
-pub fn with_more_bytes() {
-    around(b"1");
-    around(b"yes");
-    around(b"true");
-    around(b"on");
-    around(b"0");
-    around(b"no");
-    around(b"false");
-    around(b"off");
+pub fn with_more_bytes(rt: &impl Print) -> io::Result<()> {
+    around(rt, b"1")?;
+    around(rt, b"yes")?;
+    around(rt, b"true")?;
+    around(rt, b"on")?;
+    around(rt, b"0")?;
+    around(rt, b"no")?;
+    around(rt, b"false")?;
+    around(rt, b"off")
 }
 
 // One byte before a word, and one behind it.
-fn around(word: &[u8]) {
+fn around(rt: &impl Print, word: &[u8]) -> io::Result<()> {
     let none: &[u8] = b"";
-    byte_case(none, b' ', word);
-    byte_case(none, b'\t', word);
-    byte_case(none, b'\n', word);
-    byte_case(word, b' ', none);
-    byte_case(word, b'\t', none);
-    byte_case(word, b'\n', none);
-    byte_case(word, b'\r', none);
-    byte_case(word, 0x00, none);
-    byte_case(word, 0xFF, none);
+    byte_case(rt, none, b' ', word)?;
+    byte_case(rt, none, b'\t', word)?;
+    byte_case(rt, none, b'\n', word)?;
+    byte_case(rt, word, b' ', none)?;
+    byte_case(rt, word, b'\t', none)?;
+    byte_case(rt, word, b'\n', none)?;
+    byte_case(rt, word, b'\r', none)?;
+    byte_case(rt, word, 0x00, none)?;
+    byte_case(rt, word, 0xFF, none)
 }
 
-pub fn between_blanks() {
-    case(b" 1 ");
-    case(b" yes ");
-    case(b" true ");
-    case(b" on ");
-    case(b" 0 ");
-    case(b" no ");
-    case(b" false ");
-    case(b" off ");
+pub fn between_blanks(rt: &impl Print) -> io::Result<()> {
+    case(rt, b" 1 ")?;
+    case(rt, b" yes ")?;
+    case(rt, b" true ")?;
+    case(rt, b" on ")?;
+    case(rt, b" 0 ")?;
+    case(rt, b" no ")?;
+    case(rt, b" false ")?;
+    case(rt, b" off ")
 }
 
 // Starts and ends of words.
-pub fn pieces() {
-    case(b"");
-    case(b"y");
-    case(b"ye");
-    case(b"t");
-    case(b"tr");
-    case(b"tru");
-    case(b"o");
-    case(b"n");
-    case(b"f");
-    case(b"fa");
-    case(b"fal");
-    case(b"fals");
-    case(b"of");
-    case(b"es");
-    case(b"s");
-    case(b"rue");
-    case(b"e");
-    case(b"alse");
-    case(b"ff");
+pub fn pieces(rt: &impl Print) -> io::Result<()> {
+    case(rt, b"")?;
+    case(rt, b"y")?;
+    case(rt, b"ye")?;
+    case(rt, b"t")?;
+    case(rt, b"tr")?;
+    case(rt, b"tru")?;
+    case(rt, b"o")?;
+    case(rt, b"n")?;
+    case(rt, b"f")?;
+    case(rt, b"fa")?;
+    case(rt, b"fal")?;
+    case(rt, b"fals")?;
+    case(rt, b"of")?;
+    case(rt, b"es")?;
+    case(rt, b"s")?;
+    case(rt, b"rue")?;
+    case(rt, b"e")?;
+    case(rt, b"alse")?;
+    case(rt, b"ff")
 }
 
-pub fn longer() {
-    case(b"11");
-    case(b"10");
-    case(b"01");
-    case(b"00");
-    case(b"yess");
-    case(b"truee");
-    case(b"one");
-    case(b"onn");
-    case(b"noo");
-    case(b"not");
-    case(b"falsee");
-    case(b"offf");
+pub fn longer(rt: &impl Print) -> io::Result<()> {
+    case(rt, b"11")?;
+    case(rt, b"10")?;
+    case(rt, b"01")?;
+    case(rt, b"00")?;
+    case(rt, b"yess")?;
+    case(rt, b"truee")?;
+    case(rt, b"one")?;
+    case(rt, b"onn")?;
+    case(rt, b"noo")?;
+    case(rt, b"not")?;
+    case(rt, b"falsee")?;
+    case(rt, b"offf")
 }
 
 // The first or the last byte replaced by a neighbour in ASCII.
-pub fn changed() {
-    case(b"/");
-    case(b"2");
-    case(b"xes");
-    case(b"yer");
-    case(b"urue");
-    case(b"trud");
-    case(b"nn");
-    case(b"om");
-    case(b"mo");
-    case(b"np");
-    case(b"ealse");
-    case(b"falsd");
-    case(b"pff");
-    case(b"ofe");
+pub fn changed(rt: &impl Print) -> io::Result<()> {
+    case(rt, b"/")?;
+    case(rt, b"2")?;
+    case(rt, b"xes")?;
+    case(rt, b"yer")?;
+    case(rt, b"urue")?;
+    case(rt, b"trud")?;
+    case(rt, b"nn")?;
+    case(rt, b"om")?;
+    case(rt, b"mo")?;
+    case(rt, b"np")?;
+    case(rt, b"ealse")?;
+    case(rt, b"falsd")?;
+    case(rt, b"pff")?;
+    case(rt, b"ofe")
 }

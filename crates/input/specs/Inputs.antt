@@ -7,4 +7,4 @@ use Rattle.input.specs.declared.Input.TheVariants.{Whole, Longer, Failed}
 abbrev pub Inside : ℕ → Input → Type 0
 Inside length (Whole n) = n ≤ length
 Inside length Longer = Unit {0}
-Inside length Failed = Unit {0}
+Inside length (Failed error) = Unit {0}

@@ -3,34 +3,37 @@
 //     split SIZE COUNT [TEXT]      a text to split, into buffers of so many bytes and ends
 //     write SIZE [BYTES] END ..    items to write, into a buffer of so many bytes
 #![tactic(auto)]
+
 mod splitting;
 mod writing;
 
 use listing::{notation, show};
+use std::io;
 
 // The buffer takes the bytes of one case, a million and a few at most.
-fn main() {
+fn main(rt: HostRuntime) -> io::Result<()> {
     let mut buffer = [0u8; 1000064];
     let mut input = [0u8; 131072];
-    let got = io::read_full(libc::STDIN_FILENO, &mut input);
-    cases(&input[..got], &mut buffer);
+    let got = input::read_full(&mut rt.reader(), &mut input)?;
+    cases(&rt, &input[..got], &mut buffer)
 }
 
 // The array's length is in the type: a proof of it for so long a slice is too deep for the prover.
-fn cases(input: &[u8], buffer: &mut [u8; 1000064]) {
+fn cases(rt: &impl Print, input: &[u8], buffer: &mut [u8; 1000064]) -> io::Result<()> {
     for at in 0..input.len() {
         if notation::starts_line(input, at) {
-            case(notation::line_at(input, at), buffer);
+            case(rt, notation::line_at(input, at), buffer)?;
         }
     }
+    Ok(())
 }
 
-fn case(line: &[u8], buffer: &mut [u8]) {
+fn case(rt: &impl Print, line: &[u8], buffer: &mut [u8]) -> io::Result<()> {
     let rest = notation::behind(line, 6);
-    show::print_case(line);
+    show::print_case(rt, line)?;
     match notation::byte_at(line, 0) {
-        b's' => splitting::case(rest, buffer),
-        b'w' => writing::case(rest, buffer),
-        _ => show::bad_case(),
+        b's' => splitting::case(rt, rest, buffer),
+        b'w' => writing::case(rt, rest, buffer),
+        _ => show::bad_case(rt),
     }
 }

@@ -2,57 +2,62 @@
 use item_writer::WriteAnswer;
 use items::SplitAnswer;
 use listing::{notation, print, print_number, print_refused, show};
+use std::io;
 
 // What stands behind `write ` in a line.
-pub(crate) fn case(line: &[u8], buffer: &mut [u8]) {
+pub(crate) fn case(rt: &impl Print, line: &[u8], buffer: &mut [u8]) -> io::Result<()> {
     let size = notation::read_number(line);
     let rest = notation::behind(notation::behind(line, size.taken), 1);
     let bytes = notation::lay_bytes(rest, buffer);
     if bytes.taken == 0 {
-        show::bad_case();
+        show::bad_case(rt)
     } else {
         let numbers = notation::behind(rest, bytes.taken);
-        write(show::front(buffer, bytes.length), numbers, size.value);
+        write(rt, show::front(buffer, bytes.length), numbers, size.value)
     }
 }
 
-fn write(bytes: &[u8], numbers: &[u8], size: usize) {
+fn write(rt: &impl Print, bytes: &[u8], numbers: &[u8], size: usize) -> io::Result<()> {
     let mut ends = [0usize; 300];
     let mut out = [show::BYTE; 5000];
     let count = notation::lay_numbers(numbers, &mut ends);
     if 5000 < size || 300 < count {
-        show::bad_case();
-        return;
+        return show::bad_case(rt);
     }
-    write_into(bytes, show::front_numbers(&ends, count), &mut out[0..size]);
+    write_into(
+        rt,
+        bytes,
+        show::front_numbers(&ends, count),
+        &mut out[0..size],
+    )
 }
 
-fn write_into(bytes: &[u8], ends: &[usize], out: &mut [u8]) {
+fn write_into(rt: &impl Print, bytes: &[u8], ends: &[usize], out: &mut [u8]) -> io::Result<()> {
     match item_writer::write(bytes, ends, out) {
         WriteAnswer::Accepted { length } => {
-            print(b"rest ");
-            show::print_kept(show::bytes_kept(out, length));
-            print_number(length);
-            print(b" bytes: ");
+            print(rt, b"rest ")?;
+            show::print_kept(rt, show::bytes_kept(out, length))?;
+            print_number(rt, length)?;
+            print(rt, b" bytes: ")?;
             let text = show::front(out, length);
-            show::print_bytes(text);
-            split_again(text, bytes, ends);
+            show::print_bytes(rt, text)?;
+            split_again(rt, text, bytes, ends)
         }
         WriteAnswer::Refused(e) => {
-            print(b"all ");
-            show::print_kept(show::bytes_kept(out, 0));
-            print_refused(e.number(), e.place());
+            print(rt, b"all ")?;
+            show::print_kept(rt, show::bytes_kept(out, 0))?;
+            print_refused(rt, e.number(), e.place())
         }
     }
 }
 
-fn split_again(text: &[u8], bytes: &[u8], ends: &[usize]) {
+fn split_again(rt: &impl Print, text: &[u8], bytes: &[u8], ends: &[usize]) -> io::Result<()> {
     let mut found = [0u8; 4096];
     let mut found_ends = [0usize; 256];
     if are_same(text, bytes, ends, &mut found, &mut found_ends) {
-        print(b", split again the same\n");
+        print(rt, b", split again the same\n")
     } else {
-        print(b", split again not the same\n");
+        print(rt, b", split again not the same\n")
     }
 }
 

@@ -1,16 +1,19 @@
 // Cases of lines: each prints its name and what the joiner gives. tests/expected.py has the same list.
 #![tactic(auto)]
+
 mod call;
 mod calls;
 mod files;
 
-fn main() {
-    files::bench();
-    files::comments();
-    files::joining();
-    files::backslashes();
-    files::lengths();
-    calls::cursors();
-    calls::buffers();
-    calls::long_lines();
+use std::io;
+
+fn main(rt: HostRuntime) -> io::Result<()> {
+    files::bench(&rt)?;
+    files::comments(&rt)?;
+    files::joining(&rt)?;
+    files::backslashes(&rt)?;
+    files::lengths(&rt)?;
+    calls::cursors(&rt)?;
+    calls::buffers(&rt)?;
+    calls::long_lines(&rt)
 }

@@ -1,6 +1,7 @@
 // Prints answers, what the check of a file and its reading line by line give, and the texts of test cases; and reads
 // cases that stand in standard input.
 #![tactic(auto)]
+
 mod cases;
 pub mod notation;
 pub mod show;
@@ -8,55 +9,67 @@ pub mod tables;
 mod texts;
 
 pub use cases::{case, long_case, text_case};
-use libc::STDOUT_FILENO;
 use lines::{Check, Cursor, Error, Next};
+use std::io;
 pub use texts::{lay_apart, print_run};
 
-pub fn print(text: &[u8]) {
-    io::write_all(STDOUT_FILENO, text);
+pub fn print(rt: &impl Print, text: &[u8]) -> io::Result<()> {
+    rt.write_all(text)
 }
 
-pub fn print_u64(n: u64) {
-    io::print_decimal(STDOUT_FILENO, n);
+pub fn print_u64(rt: &impl Print, n: u64) -> io::Result<()> {
+    rt.print(n)
 }
 
-pub fn print_number(n: usize) {
-    print_u64(n as u64);
+pub fn print_number(rt: &impl Print, n: usize) -> io::Result<()> {
+    print_u64(rt, n as u64)
 }
 
 // The line `refused N at P`.
-pub fn print_refused(number: usize, place: usize) {
-    print(b"refused ");
-    print_number(number);
-    print(b" at ");
-    print_number(place);
-    print(b"\n");
+pub fn print_refused(rt: &impl Print, number: usize, place: usize) -> io::Result<()> {
+    print(rt, b"refused ")?;
+    print_number(rt, number)?;
+    print(rt, b" at ")?;
+    print_number(rt, place)?;
+    print(rt, b"\n")
 }
 
-pub fn print_refusal(e: Error) {
-    print_refused(e.number(), e.place());
+pub fn print_refusal(rt: &impl Print, e: Error) -> io::Result<()> {
+    print_refused(rt, e.number(), e.place())
+}
+
+// A byte as two hex digits.
+fn print_hex(rt: &impl Print, byte: u8) -> io::Result<()> {
+    print!(rt; "{byte:02x}")
 }
 
 // The first bytes of a buffer, as many as asked where it has them.
-pub fn print_front(buffer: &[u8], count: usize) {
+pub fn print_front(rt: &impl Print, buffer: &[u8], count: usize) -> io::Result<()> {
     if count <= buffer.len() {
-        print(&buffer[0..count]);
+        print(rt, &buffer[0..count])?;
     }
+    Ok(())
 }
 
 // A line: its number, its length and its bytes, or the first 20 where it has more than `most`.
-fn print_line(first: usize, buffer: &[u8], length: usize, most: usize) {
-    print_number(first);
-    print(b" ");
-    print_number(length);
-    print(b":");
+fn print_line(
+    rt: &impl Print,
+    first: usize,
+    buffer: &[u8],
+    length: usize,
+    most: usize,
+) -> io::Result<()> {
+    print_number(rt, first)?;
+    print(rt, b" ")?;
+    print_number(rt, length)?;
+    print(rt, b":")?;
     if length <= most {
-        print_front(buffer, length);
+        print_front(rt, buffer, length)?;
     } else {
-        print_front(buffer, 20);
-        print(b"..");
+        print_front(rt, buffer, 20)?;
+        print(rt, b"..")?;
     }
-    print(b"\n");
+    print(rt, b"\n")
 }
 
 #[derive(Clone, Copy)]
@@ -66,40 +79,47 @@ enum Step {
 }
 
 // Prints the next line or its refusal.
-fn list_line(file: &[u8], cursor: Cursor, buffer: &mut [u8], most: usize) -> Step {
+fn list_line(
+    rt: &impl Print,
+    file: &[u8],
+    cursor: Cursor,
+    buffer: &mut [u8],
+    most: usize,
+) -> io::Result<Step> {
     match lines::next_line(file, cursor, buffer) {
         Next::Found {
             length,
             first,
             next,
         } => {
-            print_line(first, buffer, length, most);
-            Step::Go(next)
+            print_line(rt, first, buffer, length, most)?;
+            Ok(Step::Go(next))
         }
-        Next::End => Step::Stop,
+        Next::End => Ok(Step::Stop),
         Next::Refused(e) => {
-            print_refusal(e);
-            Step::Stop
+            print_refusal(rt, e)?;
+            Ok(Step::Stop)
         }
     }
 }
 
 // 65,536 turns suffice: each line takes a byte or more of at most 65,535.
-fn list_lines(file: &[u8], buffer: &mut [u8], most: usize) {
+fn list_lines(rt: &impl Print, file: &[u8], buffer: &mut [u8], most: usize) -> io::Result<()> {
     let mut cursor = Cursor::first();
     for _ in 0..65536usize {
-        match list_line(file, cursor, buffer, most) {
+        match list_line(rt, file, cursor, buffer, most)? {
             Step::Go(next) => cursor = next,
-            Step::Stop => return,
+            Step::Stop => return Ok(()),
         }
     }
+    Ok(())
 }
 
 // Prints the refusal of a file, or its logical lines.
-pub fn list(file: &[u8], most: usize) {
+pub fn list(rt: &impl Print, file: &[u8], most: usize) -> io::Result<()> {
     let mut buffer = [0u8; 4096];
     match lines::check_file(file) {
-        Check::Accepted => list_lines(file, &mut buffer, most),
-        Check::Refused(e) => print_refusal(e),
+        Check::Accepted => list_lines(rt, file, &mut buffer, most),
+        Check::Refused(e) => print_refusal(rt, e),
     }
 }

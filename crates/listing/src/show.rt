@@ -2,8 +2,8 @@
 ghost use Rattle.std.specs.Prelude.{◌≡◌, ◌≤◌, ◌<◌, length, take};
 ghost use Rattle.listing.specs.Kept.{kept};
 
-use crate::{print, print_number};
-use libc::STDOUT_FILENO;
+use crate::{print, print_hex, print_number};
+use std::io;
 
 // The buffers are full of these before a call.
 pub const BYTE: u8 = 0xA5;
@@ -11,13 +11,13 @@ pub const BYTE: u8 = 0xA5;
 pub const NUMBER: usize = 99999;
 
 // The line of a case. What comes of it stands below, two bytes further in.
-pub fn print_case(line: &[u8]) {
-    print(line);
-    print(b"\n  ");
+pub fn print_case(rt: &impl Print, line: &[u8]) -> io::Result<()> {
+    print(rt, line)?;
+    print(rt, b"\n  ")
 }
 
-pub fn bad_case() {
-    print(b"bad case\n");
+pub fn bad_case(rt: &impl Print) -> io::Result<()> {
+    print(rt, b"bad case\n")
 }
 
 // ---- parts of a buffer
@@ -44,15 +44,15 @@ pub fn front_numbers(buffer: &[usize], count: usize) -> &[usize]
 // ---- bytes and numbers
 
 // Bytes in square brackets.
-pub fn print_bytes(text: &[u8]) {
-    print(b"[");
+pub fn print_bytes(rt: &impl Print, text: &[u8]) -> io::Result<()> {
+    print(rt, b"[")?;
     let mut at = 0;
     while at < text.len() {
         let n = run_length(&text[at..]);
-        print_run(text[at], n);
+        print_run(rt, text[at], n)?;
         at += n;
     }
-    print(b"]");
+    print(rt, b"]")
 }
 
 // How often the first byte stands there.
@@ -71,41 +71,42 @@ fn run_length(text: &[u8]) -> usize
 }
 
 // Ten or more equal bytes as `<hh x COUNT>`.
-fn print_run(byte: u8, count: usize) {
+fn print_run(rt: &impl Print, byte: u8, count: usize) -> io::Result<()> {
     if count < 10 {
-        print_times(byte, count);
-        return;
+        return print_times(rt, byte, count);
     }
-    print(b"<");
-    io::print_hex(STDOUT_FILENO, byte as u64, 2);
-    print(b" x ");
-    print_number(count);
-    print(b">");
+    print(rt, b"<")?;
+    print_hex(rt, byte)?;
+    print(rt, b" x ")?;
+    print_number(rt, count)?;
+    print(rt, b">")
 }
 
-fn print_times(byte: u8, count: usize) {
+fn print_times(rt: &impl Print, byte: u8, count: usize) -> io::Result<()> {
     for _ in 0..count {
-        print_byte(byte);
+        print_byte(rt, byte)?;
     }
+    Ok(())
 }
 
 // A byte as it is; those that do not print, `<` and `]` as `<hh>`.
-fn print_byte(byte: u8) {
+fn print_byte(rt: &impl Print, byte: u8) -> io::Result<()> {
     if lines::is_between(b' ', b'~', byte) && byte != b'<' && byte != b']' {
-        print(&[byte]);
+        print(rt, &[byte])
     } else {
-        print(b"<");
-        io::print_hex(STDOUT_FILENO, byte as u64, 2);
-        print(b">");
+        print(rt, b"<")?;
+        print_hex(rt, byte)?;
+        print(rt, b">")
     }
 }
 
 // Numbers, each with a space behind it.
-pub fn print_numbers(numbers: &[usize]) {
+pub fn print_numbers(rt: &impl Print, numbers: &[usize]) -> io::Result<()> {
     for i in 0..numbers.len() {
-        print_number(numbers[i]);
-        print(b" ");
+        print_number(rt, numbers[i])?;
+        print(rt, b" ")?;
     }
+    Ok(())
 }
 
 // ---- what a call left
@@ -133,10 +134,10 @@ pub fn numbers_kept(buffer: &[usize], from: usize) -> bool
     true
 }
 
-pub fn print_kept(kept: bool) {
+pub fn print_kept(rt: &impl Print, kept: bool) -> io::Result<()> {
     if kept {
-        print(b"kept, ");
+        print(rt, b"kept, ")
     } else {
-        print(b"changed, ");
+        print(rt, b"changed, ")
     }
 }

@@ -1,16 +1,21 @@
 // Prints what a call left in the buffers of a table, or in one like them.
 ghost use Rattle.std.specs.Prelude.{◌≤◌};
 
-use crate::{print, print_number, show};
-use libc::STDOUT_FILENO;
+use crate::{print, print_hex, print_number, show};
+use std::io;
 
-pub fn print_counts(text: usize, sections: usize, entries: usize) {
-    print_number(text);
-    print(b" text bytes, ");
-    print_number(sections);
-    print(b" sections, ");
-    print_number(entries);
-    print(b" entries\n");
+pub fn print_counts(
+    rt: &impl Print,
+    text: usize,
+    sections: usize,
+    entries: usize,
+) -> io::Result<()> {
+    print_number(rt, text)?;
+    print(rt, b" text bytes, ")?;
+    print_number(rt, sections)?;
+    print(rt, b" sections, ")?;
+    print_number(rt, entries)?;
+    print(rt, b" entries\n")
 }
 
 pub fn all_kept(text: &[u8], sections: &[usize], entries: &[usize]) -> bool {
@@ -19,16 +24,17 @@ pub fn all_kept(text: &[u8], sections: &[usize], entries: &[usize]) -> bool {
 
 // The three buffers, with these counts.
 pub fn print_table(
+    rt: &impl Print,
     text: &[u8],
     t: usize,
     sections: &[usize],
     s: usize,
     entries: &[usize],
     e: usize,
-) {
-    print_bytes(b"  text ", text, t);
-    print_numbers(b"  sections ", sections, 2 * at_most(s));
-    print_numbers(b"  entries ", entries, 5 * at_most(e));
+) -> io::Result<()> {
+    print_bytes(rt, b"  text ", text, t)?;
+    print_numbers(rt, b"  sections ", sections, 2 * at_most(s))?;
+    print_numbers(rt, b"  entries ", entries, 5 * at_most(e))
 }
 
 // A count, or 100000 where it is more: that is past every buffer here.
@@ -39,39 +45,35 @@ fn at_most(count: usize) -> usize
 }
 
 // The used bytes, the byte behind them, and whether the rest is as it was.
-pub fn print_bytes(name: &[u8], bytes: &[u8], used: usize) {
-    print(name);
-    show::print_bytes(show::front(bytes, used));
-    print(b" then ");
+pub fn print_bytes(rt: &impl Print, name: &[u8], bytes: &[u8], used: usize) -> io::Result<()> {
+    print(rt, name)?;
+    show::print_bytes(rt, show::front(bytes, used))?;
+    print(rt, b" then ")?;
     if used < bytes.len() {
-        print_hex(bytes[used]);
+        print_hex(rt, bytes[used])?;
     } else {
-        print(b"none");
+        print(rt, b"none")?;
     }
-    print_rest(show::bytes_kept(bytes, used));
+    print_rest(rt, show::bytes_kept(bytes, used))
 }
 
 // The same for numbers.
-fn print_numbers(name: &[u8], numbers: &[usize], used: usize) {
-    print(name);
-    show::print_numbers(show::front_numbers(numbers, used));
-    print(b"then ");
+fn print_numbers(rt: &impl Print, name: &[u8], numbers: &[usize], used: usize) -> io::Result<()> {
+    print(rt, name)?;
+    show::print_numbers(rt, show::front_numbers(numbers, used))?;
+    print(rt, b"then ")?;
     if used < numbers.len() {
-        print_number(numbers[used]);
+        print_number(rt, numbers[used])?;
     } else {
-        print(b"none");
+        print(rt, b"none")?;
     }
-    print_rest(show::numbers_kept(numbers, used));
+    print_rest(rt, show::numbers_kept(numbers, used))
 }
 
-fn print_hex(byte: u8) {
-    io::print_hex(STDOUT_FILENO, byte as u64, 2);
-}
-
-fn print_rest(kept: bool) {
+fn print_rest(rt: &impl Print, kept: bool) -> io::Result<()> {
     if kept {
-        print(b", rest kept\n");
+        print(rt, b", rest kept\n")
     } else {
-        print(b", rest changed\n");
+        print(rt, b", rest changed\n")
     }
 }

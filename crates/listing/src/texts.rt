@@ -2,22 +2,28 @@
 ghost use Rattle.std.specs.Prelude.{◌≡◌, ◌+◌, ◌≤◌, length};
 ghost use Rattle.listing.specs.Texts.{length_in, laid_in};
 
-use crate::{print, print_number};
-use libc::STDOUT_FILENO;
+use crate::{print, print_hex, print_number};
+use std::io;
 
 // Shown as <head{byte x count}tail>, the byte in hex; a run of one byte as <head{byte}tail>.
-pub fn print_run(head: &[u8], byte: u8, count: usize, tail: &[u8]) {
-    print(b"<");
-    print(head);
-    print(b"{");
-    io::print_hex(STDOUT_FILENO, byte as u64, 2);
+pub fn print_run(
+    rt: &impl Print,
+    head: &[u8],
+    byte: u8,
+    count: usize,
+    tail: &[u8],
+) -> io::Result<()> {
+    print(rt, b"<")?;
+    print(rt, head)?;
+    print(rt, b"{")?;
+    print_hex(rt, byte)?;
     if 1 < count {
-        print(b" x ");
-        print_number(count);
+        print(rt, b" x ")?;
+        print_number(rt, count)?;
     }
-    print(b"}");
-    print(tail);
-    print(b">");
+    print(rt, b"}")?;
+    print(rt, tail)?;
+    print(rt, b">")
 }
 
 // Lays a head at the start of a buffer and a tail from an index on, and answers where the tail ends. Where they do

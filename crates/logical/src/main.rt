@@ -1,7 +1,10 @@
 // Prints the logical lines of standard input, or `refused N at P`.
 #![tactic(auto)]
-fn main() {
+
+use std::io;
+
+fn main(rt: HostRuntime) -> io::Result<()> {
     let mut input = [0u8; 65536];
-    let got = io::read_full(libc::STDIN_FILENO, &mut input);
-    listing::list(&input[..got], 4096);
+    let got = input::read_full(&mut rt.reader(), &mut input)?;
+    listing::list(&rt, &input[..got], 4096)
 }

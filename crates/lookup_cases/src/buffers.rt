@@ -4,6 +4,7 @@ ghost use Rattle.std.specs.Prelude.{◌≤◌, length};
 use crate::answers;
 use listing::{notation, show};
 use lookup::Which;
+use std::io;
 
 // The longest buffers.
 const TEXT: usize = 65600;
@@ -20,37 +21,56 @@ enum Question {
 }
 
 // What stands behind the key in a line.
-pub(crate) fn find_case(which: Which, section: &[u8], key: &[u8], line: &[u8]) {
-    case(Question::Find(which), section, key, line);
+pub(crate) fn find_case(
+    rt: &impl Print,
+    which: Which,
+    section: &[u8],
+    key: &[u8],
+    line: &[u8],
+) -> io::Result<()> {
+    case(rt, Question::Find(which), section, key, line)
 }
 
 // What stands behind `value ` in a line.
-pub(crate) fn value_case(line: &[u8]) {
+pub(crate) fn value_case(rt: &impl Print, line: &[u8]) -> io::Result<()> {
     let index = notation::read_number(line);
     let rest = notation::behind(line, index.taken + 1);
-    case(Question::Value(index.value), b"", b"", rest);
+    case(rt, Question::Value(index.value), b"", b"", rest)
 }
 
 // Lays the text.
-fn case(question: Question, section: &[u8], key: &[u8], line: &[u8]) {
+fn case(
+    rt: &impl Print,
+    question: Question,
+    section: &[u8],
+    key: &[u8],
+    line: &[u8],
+) -> io::Result<()> {
     let mut text = [0u8; TEXT];
     let laid = notation::lay_bytes(line, &mut text);
     if laid.taken == 0 {
-        show::bad_case();
-        return;
+        return show::bad_case(rt);
     }
     let counts = notation::behind(line, laid.taken + 1);
     case_in(
+        rt,
         question,
         section,
         key,
         show::front(&text, laid.length),
         counts,
-    );
+    )
 }
 
 // Reads the counts and lays the numbers.
-fn case_in(question: Question, section: &[u8], key: &[u8], text: &[u8], counts: &[u8]) {
+fn case_in(
+    rt: &impl Print,
+    question: Question,
+    section: &[u8],
+    key: &[u8],
+    text: &[u8],
+    counts: &[u8],
+) -> io::Result<()> {
     let mut sections = [0usize; SECTIONS];
     let mut entries = [0usize; ENTRIES];
     let m = notation::read_number(counts);
@@ -61,10 +81,10 @@ fn case_in(question: Question, section: &[u8], key: &[u8], text: &[u8], counts: 
     let s = notation::lay_numbers(show::front(lists, colon), &mut sections);
     let e = notation::lay_numbers(notation::behind(lists, colon + 1), &mut entries);
     if SECTIONS < s || ENTRIES < e {
-        show::bad_case();
-        return;
+        return show::bad_case(rt);
     }
     ask(
+        rt,
         question,
         section,
         key,
@@ -73,7 +93,7 @@ fn case_in(question: Question, section: &[u8], key: &[u8], text: &[u8], counts: 
         m.value,
         show::front_numbers(&entries, e),
         k.value,
-    );
+    )
 }
 
 // How many bytes stand before the first colon, all of them where there is none.
@@ -91,6 +111,7 @@ fn before_colon(line: &[u8]) -> usize
 }
 
 fn ask(
+    rt: &impl Print,
     question: Question,
     section: &[u8],
     key: &[u8],
@@ -99,11 +120,11 @@ fn ask(
     m: usize,
     entries: &[usize],
     k: usize,
-) {
+) -> io::Result<()> {
     match question {
         Question::Find(which) => answers::find(
-            which, section, key, text, sections, m, entries, k, false,
+            rt, which, section, key, text, sections, m, entries, k, false,
         ),
-        Question::Value(index) => answers::value(index, text, sections, m, entries, k),
+        Question::Value(index) => answers::value(rt, index, text, sections, m, entries, k),
     }
 }

@@ -2,27 +2,34 @@
 use crate::answers;
 use listing::{notation, print, print_refused, show};
 use lookup::Which;
+use std::io;
 use table::ReadAnswer;
 
 // The longest file.
 const FILE: usize = 65600;
 
 // What stands behind the key in a line.
-pub(crate) fn case(which: Which, section: &[u8], key: &[u8], bracket: &[u8]) {
+pub(crate) fn case(
+    rt: &impl Print,
+    which: Which,
+    section: &[u8],
+    key: &[u8],
+    bracket: &[u8],
+) -> io::Result<()> {
     let mut file = [0u8; FILE];
     let laid = notation::lay_bytes(bracket, &mut file);
     if laid.taken == 0 || laid.taken != bracket.len() {
-        show::bad_case();
-        return;
+        return show::bad_case(rt);
     }
-    read(which, section, key, show::front(&file, laid.length));
+    read(rt, which, section, key, show::front(&file, laid.length))
 }
 
-fn read(which: Which, section: &[u8], key: &[u8], file: &[u8]) {
+fn read(rt: &impl Print, which: Which, section: &[u8], key: &[u8], file: &[u8]) -> io::Result<()> {
     let mut text = [show::BYTE; 65535];
     let mut sections = [show::NUMBER; 128];
     let mut entries = [show::NUMBER; 2560];
     read_into(
+        rt,
         which,
         section,
         key,
@@ -30,11 +37,12 @@ fn read(which: Which, section: &[u8], key: &[u8], file: &[u8]) {
         &mut text,
         &mut sections,
         &mut entries,
-    );
+    )
 }
 
 // Reads the file, and asks with the counts of the answer.
 fn read_into(
+    rt: &impl Print,
     which: Which,
     section: &[u8],
     key: &[u8],
@@ -42,16 +50,16 @@ fn read_into(
     text: &mut [u8],
     sections: &mut [usize],
     entries: &mut [usize],
-) {
+) -> io::Result<()> {
     match table::read(file, text, sections, entries) {
         ReadAnswer::Accepted {
             text: _,
             sections: m,
             entries: k,
-        } => answers::find(which, section, key, text, sections, m, entries, k, true),
+        } => answers::find(rt, which, section, key, text, sections, m, entries, k, true),
         ReadAnswer::Refused(e) => {
-            print(b"not read, ");
-            print_refused(e.number(), e.place());
+            print(rt, b"not read, ")?;
+            print_refused(rt, e.number(), e.place())
         }
     }
 }

@@ -6,36 +6,39 @@
 //     read WHICH [SECTION] [KEY] [FILE]                           an entry to find in the table of a file, and its value
 // WHICH is first or last. SECTIONS and ENTRIES are numbers, each behind a space.
 #![tactic(auto)]
+
 mod answers;
 mod buffers;
 mod files;
 
 use listing::{notation, show};
 use lookup::Which;
+use std::io;
 
 // The longest section name and the longest key that are asked for.
 const NAME: usize = 65600;
 
-fn main() {
+fn main(rt: HostRuntime) -> io::Result<()> {
     let mut input = [0u8; 262144];
-    let got = io::read_full(libc::STDIN_FILENO, &mut input);
-    cases(&input[..got]);
+    let got = input::read_full(&mut rt.reader(), &mut input)?;
+    cases(&rt, &input[..got])
 }
 
-fn cases(input: &[u8]) {
+fn cases(rt: &impl Print, input: &[u8]) -> io::Result<()> {
     for at in 0..input.len() {
         if notation::starts_line(input, at) {
-            case(notation::line_at(input, at));
+            case(rt, notation::line_at(input, at))?;
         }
     }
+    Ok(())
 }
 
-fn case(line: &[u8]) {
-    show::print_case(line);
+fn case(rt: &impl Print, line: &[u8]) -> io::Result<()> {
+    show::print_case(rt, line)?;
     match notation::byte_at(line, 0) {
-        b'v' => buffers::value_case(notation::behind(line, 6)),
-        b'f' | b'r' => case_of(line, which(line)),
-        _ => show::bad_case(),
+        b'v' => buffers::value_case(rt, notation::behind(line, 6)),
+        b'f' | b'r' => case_of(rt, line, which(line)),
+        _ => show::bad_case(rt),
     }
 }
 
@@ -56,7 +59,7 @@ fn start(which: Which) -> usize {
 }
 
 // A case of a section name and a key.
-fn case_of(line: &[u8], which: Which) {
+fn case_of(rt: &impl Print, line: &[u8], which: Which) -> io::Result<()> {
     let mut section = [0u8; NAME];
     let mut key = [0u8; NAME];
     let names = notation::behind(line, start(which));
@@ -65,22 +68,29 @@ fn case_of(line: &[u8], which: Which) {
     let k = notation::lay_bytes(behind_section, &mut key);
     let rest = notation::behind(behind_section, k.taken + 1);
     if s.taken == 0 || k.taken == 0 {
-        show::bad_case();
-        return;
+        return show::bad_case(rt);
     }
     named_case(
+        rt,
         line,
         which,
         show::front(&section, s.length),
         show::front(&key, k.length),
         rest,
-    );
+    )
 }
 
-fn named_case(line: &[u8], which: Which, section: &[u8], key: &[u8], rest: &[u8]) {
+fn named_case(
+    rt: &impl Print,
+    line: &[u8],
+    which: Which,
+    section: &[u8],
+    key: &[u8],
+    rest: &[u8],
+) -> io::Result<()> {
     if notation::byte_at(line, 0) == b'f' {
-        buffers::find_case(which, section, key, rest);
+        buffers::find_case(rt, which, section, key, rest)
     } else {
-        files::case(which, section, key, rest);
+        files::case(rt, which, section, key, rest)
     }
 }

@@ -1,5 +1,8 @@
 // `normal < FILE` writes the normal text of a file, or `refused N at P`.
 #![tactic(auto)]
-fn main() {
-    normal_output::run();
+
+use std::io;
+
+fn main(rt: HostRuntime) -> io::Result<()> {
+    normal_output::run(&rt)
 }

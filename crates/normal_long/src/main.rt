@@ -1,5 +1,8 @@
 // The same as `normal`, with an input that is longer than the buffer: its first 65,535 bytes alone would be accepted.
 #![tactic(auto)]
-fn main() {
-    normal_output::run();
+
+use std::io;
+
+fn main(rt: HostRuntime) -> io::Result<()> {
+    normal_output::run(&rt)
 }

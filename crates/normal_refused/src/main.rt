@@ -1,5 +1,8 @@
 // The same as `normal`, with a file that is refused: nothing of its normal text is written.
 #![tactic(auto)]
-fn main() {
-    normal_output::run();
+
+use std::io;
+
+fn main(rt: HostRuntime) -> io::Result<()> {
+    normal_output::run(&rt)
 }

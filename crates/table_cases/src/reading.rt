@@ -1,5 +1,6 @@
 // A file is read.
 use listing::{notation, print, print_refused, show, tables};
+use std::io;
 use table::ReadAnswer;
 
 // The longest buffers.
@@ -18,7 +19,7 @@ struct Sizes {
 }
 
 // What stands behind `read ` in a line.
-pub(crate) fn case(line: &[u8], buffer: &mut [u8]) {
+pub(crate) fn case(rt: &impl Print, line: &[u8], buffer: &mut [u8]) -> io::Result<()> {
     let text = notation::read_number(line);
     let behind_text = notation::behind(line, text.taken + 1);
     let sections = notation::read_number(behind_text);
@@ -27,19 +28,18 @@ pub(crate) fn case(line: &[u8], buffer: &mut [u8]) {
     let bracket = notation::behind(behind_sections, entries.taken + 1);
     let file = notation::lay_bytes(bracket, buffer);
     if file.taken == 0 || file.taken != bracket.len() {
-        show::bad_case();
-        return;
+        return show::bad_case(rt);
     }
     let sizes = Sizes {
         text: text.value,
         sections: sections.value,
         entries: entries.value,
     };
-    read(show::front(buffer, file.length), sizes);
+    read(rt, show::front(buffer, file.length), sizes)
 }
 
 // Reads the file into buffers of these lengths.
-fn read(file: &[u8], sizes: Sizes) {
+fn read(rt: &impl Print, file: &[u8], sizes: Sizes) -> io::Result<()> {
     let t = sizes.text;
     let s = sizes.sections;
     let e = sizes.entries;
@@ -47,32 +47,38 @@ fn read(file: &[u8], sizes: Sizes) {
     let mut sections = [show::NUMBER; SECTIONS];
     let mut entries = [show::NUMBER; ENTRIES];
     if TEXT < t || SECTIONS < s || ENTRIES < e {
-        show::bad_case();
-        return;
+        return show::bad_case(rt);
     }
     read_into(
+        rt,
         file,
         &mut text[0..t],
         &mut sections[0..s],
         &mut entries[0..e],
-    );
+    )
 }
 
 // Reads the file and prints what comes of it.
-fn read_into(file: &[u8], text: &mut [u8], sections: &mut [usize], entries: &mut [usize]) {
+fn read_into(
+    rt: &impl Print,
+    file: &[u8],
+    text: &mut [u8],
+    sections: &mut [usize],
+    entries: &mut [usize],
+) -> io::Result<()> {
     match table::read(file, text, sections, entries) {
         ReadAnswer::Accepted {
             text: t,
             sections: s,
             entries: e,
         } => {
-            tables::print_counts(t, s, e);
-            tables::print_table(text, t, sections, s, entries, e);
+            tables::print_counts(rt, t, s, e)?;
+            tables::print_table(rt, text, t, sections, s, entries, e)
         }
         ReadAnswer::Refused(e) => {
-            print(b"all ");
-            show::print_kept(tables::all_kept(text, sections, entries));
-            print_refused(e.number(), e.place());
+            print(rt, b"all ")?;
+            show::print_kept(rt, tables::all_kept(text, sections, entries))?;
+            print_refused(rt, e.number(), e.place())
         }
     }
 }
