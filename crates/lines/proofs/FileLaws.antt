@@ -91,7 +91,7 @@ unfolding all line_at first_control
 control_line d = cond (all plain d) 0 (line_at (first_control d) d)
 
 -- where there is one, what follows does not count
-first_stays : (a c : Bytes) → all plain a ≡ false
+pub first_stays : (a c : Bytes) → all plain a ≡ false
     → line_feeds (take (first_control (a ++ c)) (a ++ c)) ≡ line_feeds (take (first_control a) a)
 unfolding all first_control line_feeds
 first_stays [] c h = impossible (sym h)

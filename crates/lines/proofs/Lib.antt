@@ -23,11 +23,16 @@ pub mod Totals
 pub mod Appending
 pub mod Whole
 pub mod Legal
+-- comments, and files of two parts
+pub mod Comments
+pub mod LineEnds
+pub mod CheckedParts
 -- the joiner
 pub mod CursorSteps
 pub mod Pieces
 pub mod Walk
 pub mod Reading
 pub mod Promises
--- what specs/Laws.antt states
+-- what specs/Laws.antt and specs/CommentLaws.antt state
 pub mod Laws
+pub mod CommentLaws

@@ -16,11 +16,11 @@ use Rattle.lines.proofs.Characters.{char_nil, character, no_start}
 
 -- ---- the longest well-formed start
 
-start_no : (f : Bytes) (n : ℕ) → utf8 (take (suc n) f) ≡ false → start_within (suc n) f ≡ start_within n f
+pub start_no : (f : Bytes) (n : ℕ) → utf8 (take (suc n) f) ≡ false → start_within (suc n) f ≡ start_within n f
 unfolding start_within
 start_no f n e = rw e
 
-start_yes : (f : Bytes) (n : ℕ) → utf8 (take n f) ≡ true → start_within n f ≡ n
+pub start_yes : (f : Bytes) (n : ℕ) → utf8 (take n f) ≡ true → start_within n f ≡ n
 unfolding start_within
 start_yes f zero e = refl
 start_yes f (suc n) e = rw e

@@ -11,6 +11,7 @@ pub mod Buffers
 pub mod Cursors
 -- what the crates above rest on
 pub mod Laws
+pub mod CommentLaws
 -- cited by no public promise
 pub mod CharSteps
 pub mod LineSteps

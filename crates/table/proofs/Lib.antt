@@ -19,5 +19,6 @@ pub mod TakingLines
 pub mod ReadingLines
 pub mod ReadingAll
 pub mod ReadCalls
--- what specs/Laws.antt states
+-- what specs/Laws.antt and specs/FileLaws.antt state
 pub mod Laws
+pub mod FileLaws

@@ -6,5 +6,6 @@ pub mod Contents
 pub mod Answers
 -- what the crates above rest on
 pub mod Laws
+pub mod FileLaws
 -- cited by no public promise
 pub mod Steps
