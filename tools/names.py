@@ -20,6 +20,20 @@ import os
 import re
 import sys
 
+# Parameters of signatures.
+PARAMETERS = {
+    "textAt": "text_at",
+    "textSize": "text_size",
+    "sectionsSize": "sections_size",
+    "entriesSize": "entries_size",
+    "outSize": "out_size",
+    "bytesSize": "bytes_size",
+    "endsSize": "ends_size",
+    "backSize": "back_size",
+    "againSize": "again_size",
+    "otherSize": "other_size",
+}
+
 # Names that would fall together with another one, or hide it.
 BY_HAND = {
     # fields that say what a buffer holds afterwards, beside the definitions text_after, sections_after ..
@@ -58,6 +72,9 @@ BY_HAND = {
     "table-in": "table_in_lem",
     "text-of-table": "text_of_table_lem",
     "text_in": "text_in_lem",
+    # a dash joins two definitions only where it means them
+    "value-number": "value_number",
+    "step-quote": "step_quote",
     "value-means": "value_means_lem",
     "write-means": "write_means_lem",
 }
@@ -162,7 +179,10 @@ def main():
     args = [a for a in sys.argv[1:] if not a.startswith("--")]
     top = args[0] if args else "."
     os.environ["OWN"] = " ".join(os.listdir(os.path.join(top, "crates")))
+    if os.path.exists(os.path.join(top, "docs", "PORT.md")) and "--list" not in sys.argv:
+        sys.exit("names.py: docs/PORT.md says that this has been done: a second run would rename what stands")
     table, names = renamings(top)
+    table.update(PARAMETERS)
     if "--list" in sys.argv:
         for old, new in sorted(table.items()):
             print(old, new)

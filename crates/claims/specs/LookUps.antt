@@ -111,10 +111,10 @@ pub record Located : Type 0 where
   pub value : Bytes
 
 -- what `read_then_find` answers: 1 where its buffer has fewer than 65,535 bytes; the refusal of the file; 40; or the entry
-unfoldable pub look_up_in : (outSize : ℕ) → Bytes → Which → (x k : Bytes) → Outcome Located
+unfoldable pub look_up_in : (out_size : ℕ) → Bytes → Which → (x k : Bytes) → Outcome Located
 unfolding and_then verdict index_in_table value_in_table
-look_up_in outSize f w x k =
-    cond (ltb outSize 65535) (refused 1 0)
+look_up_in out_size f w x k =
+    cond (ltb out_size 65535) (refused 1 0)
     (and_then (verdict f) (λ t. and_then (index_in_table t w x k) (λ i. and_then (value_in_table t i) (λ v. accepted (record { index = i; value = v })))))
 
 -- an index and a length

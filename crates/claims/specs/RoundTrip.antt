@@ -46,10 +46,10 @@ SplitComesBack = (bytes : Bytes) (ends : List ℕ) (out : Bytes) (w : WriteAnswe
 -- ---- one function that makes both calls
 
 -- what it answers: 1 where one of the three buffers is too short, else what writing answers
-unfoldable pub trip_in : (outSize backSize endsSize : ℕ) → Bytes → List ℕ → Outcome Bytes
+unfoldable pub trip_in : (out_size back_size ends_size : ℕ) → Bytes → List ℕ → Outcome Bytes
 unfolding write_in
-trip_in outSize backSize endsSize bytes ends =
-    cond (ltb backSize 4096 || ltb endsSize 256) (refused 1 0) (write_in outSize bytes ends)
+trip_in out_size back_size ends_size bytes ends =
+    cond (ltb back_size 4096 || ltb ends_size 256) (refused 1 0) (write_in out_size bytes ends)
 
 -- the counts of what came back
 abbrev pub trip_counts : List ℕ → Outcome Bytes → Outcome Counts

@@ -47,9 +47,9 @@ measured (accepted t) = accepted (length t)
 measured (refused n p) = refused n p
 
 -- the normal text of a file, into an output buffer of this size
-unfoldable pub text_in : (outSize : ℕ) → Bytes → Outcome Bytes
+unfoldable pub text_in : (out_size : ℕ) → Bytes → Outcome Bytes
 unfolding text_of_file
-text_in outSize f = cond (ltb outSize 65535) (refused 1 0) (text_of_file f)
+text_in out_size f = cond (ltb out_size 65535) (refused 1 0) (text_of_file f)
 
 -- the promise of `normal_into`
 pub record NormalInto (f out : Bytes) (r : NormalAnswer) (out' : Bytes) : Type 0 where

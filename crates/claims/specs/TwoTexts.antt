@@ -20,9 +20,9 @@ unfolding and_then sections_in normal_text
 text_of_file f = and_then (sections_in f) (λ ss. accepted (normal_text ss))
 
 -- 1 before everything, for one of the two buffers
-unfoldable pub twice_in : (outSize againSize : ℕ) → Bytes → Outcome Bytes
+unfoldable pub twice_in : (out_size again_size : ℕ) → Bytes → Outcome Bytes
 unfolding text_of_file
-twice_in outSize againSize f = cond (ltb outSize 65535 || ltb againSize 65535) (refused 1 0) (text_of_file f)
+twice_in out_size again_size f = cond (ltb out_size 65535 || ltb again_size 65535) (refused 1 0) (text_of_file f)
 
 -- two lengths
 pub record Lengths : Type 0 where
@@ -73,9 +73,9 @@ held_by (accepted ss) (refused n p) = second n p
 held_by (refused n p) o = first n p
 
 -- 1 before everything, for one of the two buffers
-unfoldable pub alike_in : (outSize otherSize : ℕ) → (f g : Bytes) → OfTwo HeldByEach
+unfoldable pub alike_in : (out_size other_size : ℕ) → (f g : Bytes) → OfTwo HeldByEach
 unfolding sections_in
-alike_in outSize otherSize f g = cond (ltb outSize 65535 || ltb otherSize 65535) (first 1 0) (held_by (sections_in f) (sections_in g))
+alike_in out_size other_size f g = cond (ltb out_size 65535 || ltb other_size 65535) (first 1 0) (held_by (sections_in f) (sections_in g))
 
 -- what the answer of `set_alike` means
 abbrev pub alike_means : AlikeAnswer → OfTwo Bool

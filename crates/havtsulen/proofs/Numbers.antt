@@ -49,7 +49,7 @@ item_number (TooManyItems at) = refl
 item_number NulByte = refl
 item_number BadEnds = refl
 
-pub value-number : (e : value.Error) → eqb (values.number_of e) 0 ≡ false
-value-number NoBoolean = refl
-value-number SpanForm = refl
-value-number SpanTooLarge = refl
+pub value_number : (e : value.Error) → eqb (values.number_of e) 0 ≡ false
+value_number NoBoolean = refl
+value_number SpanForm = refl
+value_number SpanTooLarge = refl

@@ -17,7 +17,7 @@ use Rattle.havtsulen.specs.Reports.{four, with_report}
 use Rattle.havtsulen.specs.Answers.{number_told, truth_told, ReportsBoolean, ReportsSpan}
 use Rattle.havtsulen.specs.Steps.{Replies}
 use Rattle.havtsulen.proofs.Reporting.{with_short, with_long, short, accepts, refuses}
-use Rattle.havtsulen.proofs.Numbers.{value-number}
+use Rattle.havtsulen.proofs.Numbers.{value_number}
 
 -- ---- booleans
 
@@ -37,7 +37,7 @@ module _ (text : Bytes) (report : List ℕ) where
     pub boolean_refused : (x : Error) → a ≡ BooleanRefused x → (number place : ℕ) → number ≡ number_of x → place ≡ place_of x
         → Replies number place 0 0 0 report r report' → ReportsBoolean text report r report'
     boolean_refused x known number place i j p =
-        refuses truth_told _ report h r report' _ _ (ap boolean_means (sym known) ∙ boolean_means_lem) (value-number x) number place i j p
+        refuses truth_told _ report h r report' _ _ (ap boolean_means (sym known) ∙ boolean_means_lem) (value_number x) number place i j p
 
 -- ---- time spans
 
@@ -55,4 +55,4 @@ module _ (text : Bytes) (report : List ℕ) where
     pub span_refused : (x : Error) → a ≡ SpanRefused x → (number place : ℕ) → number ≡ number_of x → place ≡ place_of x
         → Replies number place 0 0 0 report r report' → ReportsSpan text report r report'
     span_refused x known number place i j p =
-        refuses number_told _ report h r report' _ _ (ap span_means (sym known) ∙ span_means_lem) (value-number x) number place i j p
+        refuses number_told _ report h r report' _ _ (ap span_means (sym known) ∙ span_means_lem) (value_number x) number place i j p

@@ -14,7 +14,7 @@ use Rattle.lines.proofs.Bools.{by_cases, clash, impossible, and_left, and_right,
 use Rattle.items.specs.Pieces.{Piece, quote, pieces_from, pieces}
 use Rattle.items.specs.Split.{Step, item, end, refusal, bare_item, quoted_item, past_blanks, begun, step, with_item, collected, items_of, forbidden, first_forbidden, split_of}
 use Rattle.items.specs.Grammar.{Element, BareElement, QuotedElement, all_spelt, Spelling, bare, quoted, SoundItem, item_spelt, item_meant, Spelled}
-use Rattle.items.proofs.StepLaws.{step_end, step-blank, step-quote, step_bare}
+use Rattle.items.proofs.StepLaws.{step_end, step-blank, step_quote, step_bare}
 use Rattle.items.proofs.Elements.{parts}
 use Rattle.items.proofs.Listed.{Listed, none_listed, blank-before, item_before, listed_spelled}
 use Rattle.items.proofs.ElementsBack.{read, begins, Back, bare_back, quoted_back}
@@ -90,7 +90,7 @@ unfolding step past_blanks begun parts
 begun_back zero at b t h = let f = begins at (b ∷ t) h in rw (f.pieces, f.no_blank) tt
 begun_back (suc n) at b t h =
     by_cases (quote b)
-    (λ y. rw (step-quote n at b t y) (from_quoted n b t (quoted_item b at (pieces_from 0 (suc at) t)) y (quoted_back b at (read (suc at) t))))
+    (λ y. rw (step_quote n at b t y) (from_quoted n b t (quoted_item b at (pieces_from 0 (suc at) t)) y (quoted_back b at (read (suc at) t))))
     (λ y. rw (step_bare n at b t h y) (from_bare n (b ∷ t) (bare_item (pieces_from 0 at (b ∷ t))) h (bare_back (read at (b ∷ t)))))
 
 blank_back : (n b : ℕ) (t : Bytes) (s : Step) → blank b ≡ true → StepBack n t s → StepBack n (b ∷ t) s

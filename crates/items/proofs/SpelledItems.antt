@@ -15,7 +15,7 @@ use Rattle.lines.proofs.Bools.{and_left, and_right, any-all}
 use Rattle.items.specs.Pieces.{pieces_from, pieces}
 use Rattle.items.specs.Split.{item, step, collected, items_of, forbidden, split_of}
 use Rattle.items.specs.Grammar.{itself, escaping, all_spelt, Spelling, bare, quoted, SoundItem, item_spelt, item_meant, Spaced, SoundSpaced, Parted, text_of, items_meant, Spelled}
-use Rattle.items.proofs.StepLaws.{step_end, step-blank, step-quote, step_bare}
+use Rattle.items.proofs.StepLaws.{step_end, step-blank, step_quote, step_bare}
 use Rattle.items.proofs.Elements.{parts, bare_elements, quoted_elements}
 
 -- ---- a step
@@ -31,7 +31,7 @@ item_step n (quoted q es) at t h p =
     let o : suc (length (all_spelt es) + suc at) ≡ suc (length (all_spelt es ++ q ∷ [])) + at = simp length-append (omega arith) in
     rw (
       append_assoc (all_spelt es) (q ∷ []) t,
-      step-quote n at q (all_spelt es ++ q ∷ t) h.0,
+      step_quote n at q (all_spelt es ++ q ∷ t) h.0,
       quoted_elements q at es (suc at) t h.0 h.1 p,
       o,
     )

@@ -21,10 +21,10 @@ pub step-blank : (n at b : ℕ) (t : Bytes) → blank b ≡ true → step n (pie
 unfolding step past_blanks
 step-blank n at b t h = rw (pieces-plain at b t (neq_byte blank 0x5C b refl h), h)
 
-pub step-quote : (n at q : ℕ) (t : Bytes) → quote q ≡ true
+pub step_quote : (n at q : ℕ) (t : Bytes) → quote q ≡ true
     → step (suc n) (pieces_from 0 at (q ∷ t)) ≡ quoted_item q at (pieces_from 0 (suc at) t)
 unfolding step past_blanks begun item_at
-step-quote n at q t h = rw (pieces-plain at q t (neq_byte quote 0x5C q refl h), quote-blank q h, h)
+step_quote n at q t h = rw (pieces-plain at q t (neq_byte quote 0x5C q refl h), quote-blank q h, h)
 
 pub step_bare : (n at b : ℕ) (t : Bytes) → blank b ≡ false → quote b ≡ false
     → step (suc n) (pieces_from 0 at (b ∷ t)) ≡ bare_item (pieces_from 0 at (b ∷ t))

@@ -124,6 +124,6 @@ ends_from at [] = []
 ends_from at (x ∷ xs) = (at + length x) ∷ ends_from (at + length x) xs
 
 -- 1 before everything: the buffers have at least 4,096 bytes and 256 numbers
-unfoldable pub split_in : (bytesSize endsSize : ℕ) → Bytes → Outcome (List Bytes)
+unfoldable pub split_in : (bytes_size ends_size : ℕ) → Bytes → Outcome (List Bytes)
 unfolding split_of
-split_in bytesSize endsSize t = cond (ltb bytesSize 4096 || ltb endsSize 256) (refused 1 0) (split_of t)
+split_in bytes_size ends_size t = cond (ltb bytes_size 4096 || ltb ends_size 256) (refused 1 0) (split_of t)

@@ -87,10 +87,10 @@ abbrev pub nul : ℕ → Bool
 nul b = eqb b 0x00
 
 -- the text for a buffer of this size, or the refusal: 1, 26, 28, 27, 20
-unfoldable pub write_in : (outSize : ℕ) → Bytes → List ℕ → Outcome Bytes
+unfoldable pub write_in : (out_size : ℕ) → Bytes → List ℕ → Outcome Bytes
 unfolding ends_fit cut_from any bytes_of written
-write_in outSize bs ends =
-    cond (ltb outSize 4096) (refused 1 0)
+write_in out_size bs ends =
+    cond (ltb out_size 4096) (refused 1 0)
     (cond (ltb 256 (length ends)) (refused 26 0)
     (cond (not (ends_fit 0 (length bs) ends)) (refused 28 0)
     (cond (any nul (bytes_of (items_in bs ends))) (refused 27 0)

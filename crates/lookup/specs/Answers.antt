@@ -52,9 +52,9 @@ part_or (accepted p) = p
 part_or (refused n p) = record { start = 0; size = 0 }
 
 -- The promise of `value`: the bytes of the entry's value, and they are a part of the text buffer itself; where there is
--- none, the part of length 0 at its start. A slice lies in a block of memory from an offset on: `textAt` is where the lent
+-- none, the part of length 0 at its start. A slice lies in a block of memory from an offset on: `text_at` is where the lent
 -- text lies, and `result_at` where the slice handed back does.
-pub record HandsBack (b : Lent) (i : ℕ) (textAt result_at : ℕ × ℕ) (r : Bytes) : Type 0 where
+pub record HandsBack (b : Lent) (i : ℕ) (text_at result_at : ℕ × ℕ) (r : Bytes) : Type 0 where
   pub bytes : r ≡ bytes_or (value_in b i)
-  pub block : result_at.0 ≡ textAt.0
-  pub offset : result_at.1 ≡ textAt.1 + (part_or (part_in b i)).start
+  pub block : result_at.0 ≡ text_at.0
+  pub offset : result_at.1 ≡ text_at.1 + (part_or (part_in b i)).start

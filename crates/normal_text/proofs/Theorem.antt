@@ -125,5 +125,5 @@ unfolding normal_in
 space_decides a b c d f h = rw (le-ltb d 65535 h)
 
 pub normal_decided : NormalDecided
-normal_decided textSize sectionsSize entriesSize outSize f ht hs he ho =
-    space_decides textSize sectionsSize entriesSize outSize f ho ∙ table.enough_space_decides textSize sectionsSize entriesSize f ht hs he
+normal_decided text_size sections_size entries_size out_size f ht hs he ho =
+    space_decides text_size sections_size entries_size out_size f ho ∙ table.enough_space_decides text_size sections_size entries_size f ht hs he

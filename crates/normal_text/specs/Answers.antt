@@ -46,10 +46,10 @@ pub record NormalLeaves (o : Outcome Table) (text : Bytes) (sections entries : L
   pub new_out : out' ≡ out_after o out
 
 -- 1 before everything, for any of the four: the output buffer has at least 65,535 bytes. Then it refuses as the reader does.
-unfoldable pub normal_in : (textSize sectionsSize entriesSize outSize : ℕ) → Bytes → Outcome Table
+unfoldable pub normal_in : (text_size sections_size entries_size out_size : ℕ) → Bytes → Outcome Table
 unfolding read_in
-normal_in textSize sectionsSize entriesSize outSize f =
-    cond (ltb outSize 65535) (refused 1 0) (read_in textSize sectionsSize entriesSize f)
+normal_in text_size sections_size entries_size out_size f =
+    cond (ltb out_size 65535) (refused 1 0) (read_in text_size sections_size entries_size f)
 
 -- the promise of `normal_text`: the answer, and the four buffers whole
 abbrev pub Normalizes : (f text : Bytes) (sections entries : List ℕ) (out : Bytes)

@@ -39,6 +39,6 @@ NormalTells = (f g : Bytes) (ss ts : List (Section Pair)) → sections_in f ≡ 
 
 -- with buffers of the sizes that are asked for, the verdict on a call is that on the file
 abbrev pub NormalDecided : Type 0
-NormalDecided = (textSize sectionsSize entriesSize outSize : ℕ) (f : Bytes)
-    → 65535 ≤ textSize → 128 ≤ sectionsSize → 2560 ≤ entriesSize → 65535 ≤ outSize
-    → normal_in textSize sectionsSize entriesSize outSize f ≡ verdict f
+NormalDecided = (text_size sections_size entries_size out_size : ℕ) (f : Bytes)
+    → 65535 ≤ text_size → 128 ≤ sections_size → 2560 ≤ entries_size → 65535 ≤ out_size
+    → normal_in text_size sections_size entries_size out_size f ≡ verdict f

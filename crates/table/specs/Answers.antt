@@ -86,10 +86,10 @@ pub record ReadLeaves (o : Outcome Table) (text : Bytes) (sections entries : Lis
   pub left : TableLeft o text sections entries text' sections' entries'
 
 -- 1 before everything: the buffers have at least 65,535 bytes, 128 numbers and 2,560 numbers
-unfoldable pub read_in : (textSize sectionsSize entriesSize : ℕ) → Bytes → Outcome Table
+unfoldable pub read_in : (text_size sections_size entries_size : ℕ) → Bytes → Outcome Table
 unfolding verdict
-read_in textSize sectionsSize entriesSize f =
-    cond (nat_lt textSize 65535 || (nat_lt sectionsSize 128 || nat_lt entriesSize 2560)) (refused 1 0) (verdict f)
+read_in text_size sections_size entries_size f =
+    cond (nat_lt text_size 65535 || (nat_lt sections_size 128 || nat_lt entries_size 2560)) (refused 1 0) (verdict f)
 
 -- the promise of `read`: the answer, and the three buffers whole
 abbrev pub Reads : (f text : Bytes) (sections entries : List ℕ)

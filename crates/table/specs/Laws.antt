@@ -104,5 +104,5 @@ NumbersDecideNothing = (ls ms : List Line) → bytes_of ls ≡ bytes_of ms → (
 
 -- with buffers of the sizes that are asked for, it is the verdict on the file
 abbrev pub ReadDecided : Type 0
-ReadDecided = (textSize sectionsSize entriesSize : ℕ) (f : Bytes) → 65535 ≤ textSize → 128 ≤ sectionsSize → 2560 ≤ entriesSize
-    → read_in textSize sectionsSize entriesSize f ≡ verdict f
+ReadDecided = (text_size sections_size entries_size : ℕ) (f : Bytes) → 65535 ≤ text_size → 128 ≤ sections_size → 2560 ≤ entries_size
+    → read_in text_size sections_size entries_size f ≡ verdict f
