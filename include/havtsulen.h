@@ -53,8 +53,8 @@
  * Stack
  *   A call needs at most HAVTSULEN_STACK_BYTES bytes of the stack that it is made on. The library does not check that
  *   they are there, but touches its stack page by page, so that a guard page below it ends the program. Measured
- *   (tests/stack): havtsulen_normal_text 97,376, havtsulen_read 92,640, havtsulen_write 17,272, havtsulen_split 6,496,
- *   every other call below 200; and some 3,200 more in the first call of a program that binds memcpy and memset lazily.
+ *   (tests/stack): havtsulen_normal_text 97,352, havtsulen_read 92,584, havtsulen_write 17,256, havtsulen_split 6,488,
+ *   every other call below 250; and some 3,200 more in the first call of a program that binds memcpy and memset lazily.
  */
 #ifndef HAVTSULEN_H
 #define HAVTSULEN_H
