@@ -26,7 +26,8 @@ pub extern "C" fn havtsulen_read(
     entries: &mut [usize],
     report: &mut [usize],
 ) -> usize
-    ensures { ReportsRead file.now text.old sections.old entries.old report.old result text.new sections.new entries.new report.new }
+    ensures { ReportsRead file.now text.old sections.old entries.old report.old
+        result text.new sections.new entries.new report.new }
 {
     havtsulen::havtsulen_read(file, text, sections, entries, report)
 }
@@ -41,7 +42,8 @@ pub extern "C" fn havtsulen_normal_text(
     out: &mut [u8],
     report: &mut [usize],
 ) -> usize
-    ensures { ReportsNormalText file.now text.old sections.old entries.old out.old report.old result text.new sections.new entries.new out.new report.new }
+    ensures { ReportsNormalText file.now text.old sections.old entries.old out.old report.old
+        result text.new sections.new entries.new out.new report.new }
 {
     havtsulen::havtsulen_normal_text(file, text, sections, entries, out, report)
 }

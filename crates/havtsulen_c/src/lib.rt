@@ -1,5 +1,5 @@
-// The archive for programs in C: each call of `havtsulen` once more, with the C calling convention and under its own name.
-// include/havtsulen.h says what a caller has to know.
+// The archive for programs in C: each call of `havtsulen` once more, with the C calling convention and under its own
+// name. include/havtsulen.h says what a caller has to know.
 #![tactic(auto)]
 
 mod files;

@@ -15,7 +15,8 @@ pub extern "C" fn havtsulen_find(
     entry_count: usize,
     report: &mut [usize],
 ) -> usize
-    ensures { ReportsFind (lent text.now sections.now section_count entries.now entry_count) which section.now key.now report.old result report.new }
+    ensures { ReportsFind (lent text.now sections.now section_count entries.now entry_count)
+        which section.now key.now report.old result report.new }
 {
     havtsulen::havtsulen_find(
         section,
@@ -41,7 +42,8 @@ pub extern "C" fn havtsulen_value_check(
     entry_count: usize,
     report: &mut [usize],
 ) -> usize
-    ensures { ReportsValueCheck (lent text.now sections.now section_count entries.now entry_count) index report.old result report.new }
+    ensures { ReportsValueCheck (lent text.now sections.now section_count entries.now entry_count)
+        index report.old result report.new }
 {
     havtsulen::havtsulen_value_check(
         index,
@@ -65,7 +67,8 @@ pub extern "C" fn havtsulen_value(
     entry_count: usize,
     report: &mut [usize],
 ) -> usize
-    ensures { ReportsValue (lent text.now sections.now section_count entries.now entry_count) index report.old result report.new }
+    ensures { ReportsValue (lent text.now sections.now section_count entries.now entry_count)
+        index report.old result report.new }
 {
     havtsulen::havtsulen_value(
         index,

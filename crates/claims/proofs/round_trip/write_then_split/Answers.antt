@@ -1,5 +1,6 @@
 -- `write_then_split`: the buffers, then each call by its promise.
 use native.Mathlib.Omega.{arith}
+use borrow.Author.Rules.{rules}
 use Rattle.claims.proofs.CallsBack.{trip_short_bytes, trip_short_ends, text_inside, trip_write_refused, trip_back}
 use Rattle.claims.proofs.round_trip.write_then_split.Goals as goal
 
@@ -16,4 +17,4 @@ pub slice_bounds-split-end : goal.slice_bounds-split-end
 slice_bounds-split-end c = omega (arith, text_inside c.args.bytes.now c.args.ends.now c.args.out.now c.args.back.now c.args.back_ends.now c.if-back-lt4096.false c.if-back_ends-lt256.false c.write-w.result c.write-w.new.out c.write-w.ensures c.in-Accepted.length c.in-Accepted.is)
 
 pub returns : goal.returns
-returns c = trip_back c.args.bytes.now c.args.ends.now c.args.out.now c.args.back.now c.args.back_ends.now c.if-back-lt4096.false c.if-back_ends-lt256.false c.write-w.result c.write-w.new.out c.write-w.ensures (λ i. omega (arith, c.shared_slice_known-1.given i)) c.in-Accepted.length c.in-Accepted.is c.split.result c.split.new.bytes c.split.new.ends c.split.ensures
+returns c = trip_back c.args.bytes.now c.args.ends.now c.args.out.now c.args.back.now c.args.back_ends.now c.if-back-lt4096.false c.if-back_ends-lt256.false c.write-w.result c.write-w.new.out c.write-w.ensures (search rules) c.in-Accepted.length c.in-Accepted.is c.split.result c.split.new.bytes c.split.new.ends c.split.ensures

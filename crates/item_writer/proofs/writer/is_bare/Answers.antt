@@ -9,7 +9,7 @@ use Rattle.item_writer.proofs.Bare.{bare_none, bare_some}
 use Rattle.item_writer.proofs.writer.is_bare.Goals as goal
 
 pub returns-then-item-eq0 : goal.returns-then-item-eq0
-returns-then-item-eq0 c = sym (bare_none _ c.if-item-eq0.true)
+returns-then-item-eq0 c = sym (bare_none _ (omega arith))
 
 pub loop-i-init : goal.loop-i-init
 loop-i-init c = (omega arith, bare_some _ (omega (arith, c.if-item-eq0.false)))

@@ -12,13 +12,13 @@ unfolding numeric
 returns-in_default c = record { means = rw c.in_default.is; short = tt }
 
 pub returns-then-v-lt1 : goal.returns-then-v-lt1
-returns-then-v-lt1 c = record { means = rw c.in-Value.is (byte_zero _ _ _ c.if-v-lt1.true); short = tt }
+returns-then-v-lt1 c = record { means = rw c.in-Value.is (byte_zero _ _ _ (omega arith)); short = tt }
 
 pub returns-then-v-gt255 : goal.returns-then-v-gt255
-returns-then-v-gt255 c = record { means = rw c.in-Value.is (byte_above _ _ _ c.if-v-lt1.false c.if-v-gt255.true); short = tt }
+returns-then-v-gt255 c = record { means = rw c.in-Value.is (byte_above _ _ _ (omega arith) (omega arith)); short = tt }
 
 pub returns : goal.returns
 returns c = record {
-  means = rw c.in-Value.is (ap (λ (bs : Bytes). accepted (record { bytes = bs; taken = c.args.taken })) c.one.ensures.0 ∙ byte_given _ _ _ c.if-v-lt1.false c.if-v-gt255.false);
+  means = rw c.in-Value.is (ap (λ (bs : Bytes). accepted (record { bytes = bs; taken = c.args.taken })) c.one.ensures.0 ∙ byte_given _ _ _ (omega arith) (omega arith));
   short = omega arith;
 }

@@ -7,19 +7,19 @@ use Rattle.lines.proofs.Bools.{and_left}
 use Rattle.items.proofs.escapes.digit_value.Goals as goal
 
 pub overflow_sub-result : goal.overflow_sub-result
-overflow_sub-result c = omega (arith, leb-true 0x30 c.args.c (and_left (leb 0x30 c.args.c) (leb c.args.c 0x39) (sym c.is_between.ensures ∙ c.if-is_between.true)))
+overflow_sub-result c = omega (arith, leb-true 0x30 c.args.c (and_left (leb 0x30 c.args.c) _ (sym c.is_between.ensures ∙ c.if-is_between.true)))
 
 pub returns-then-is_between : goal.returns-then-is_between
 returns-then-is_between c = rw (sym c.is_between.ensures ∙ c.if-is_between.true)
 
 pub overflow_sub-result-then-is_between-2 : goal.overflow_sub-result-then-is_between-2
-overflow_sub-result-then-is_between-2 c = omega (arith, leb-true 0x61 c.args.c (and_left (leb 0x61 c.args.c) (leb c.args.c 0x66) (sym c.is_between-2.ensures ∙ c.if-is_between-2.true)))
+overflow_sub-result-then-is_between-2 c = omega (arith, leb-true 0x61 c.args.c (and_left (leb 0x61 c.args.c) _ (sym c.is_between-2.ensures ∙ c.if-is_between-2.true)))
 
 pub returns-then-is_between-2 : goal.returns-then-is_between-2
 returns-then-is_between-2 c = rw (sym c.is_between.ensures ∙ c.if-is_between.false, sym c.is_between-2.ensures ∙ c.if-is_between-2.true)
 
 pub overflow_sub-result-then-is_between-3 : goal.overflow_sub-result-then-is_between-3
-overflow_sub-result-then-is_between-3 c = omega (arith, leb-true 0x41 c.args.c (and_left (leb 0x41 c.args.c) (leb c.args.c 0x46) (sym c.is_between-3.ensures ∙ c.if-is_between-3.true)))
+overflow_sub-result-then-is_between-3 c = omega (arith, leb-true 0x41 c.args.c (and_left (leb 0x41 c.args.c) _ (sym c.is_between-3.ensures ∙ c.if-is_between-3.true)))
 
 pub returns-then-is_between-3 : goal.returns-then-is_between-3
 returns-then-is_between-3 c = rw (sym c.is_between.ensures ∙ c.if-is_between.false, sym c.is_between-2.ensures ∙ c.if-is_between-2.false, sym c.is_between-3.ensures ∙ c.if-is_between-3.true)

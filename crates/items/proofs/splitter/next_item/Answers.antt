@@ -10,12 +10,12 @@ returns-then-text-at c = let p = c.past_blanks-at.ensures in
 
 pub returns-then-more-eq0 : goal.returns-then-more-eq0
 returns-then-more-eq0 c = let p = c.past_blanks-at.ensures in
-    step_many c.args.text.now c.args.more c.args.start _ p (omega arith) c.if-more-eq0.true
+    step_many c.args.text.now c.args.more c.args.start _ p (omega arith) (omega arith)
 
 pub returns-then-is_quote : goal.returns-then-is_quote
 returns-then-is_quote c = let p = c.past_blanks-at.ensures in
-    same_step c.args.text.now _ _ c.args.used _ c.read_item.new.buffer c.read_item.result (step_quoted c.args.text.now c.args.more c.args.start _ p (omega arith) c.if-more-eq0.false (sym c.is_quote.ensures ∙ c.if-is_quote.true)) c.read_item.ensures
+    same_step c.args.text.now _ _ c.args.used _ c.read_item.new.buffer c.read_item.result (step_quoted c.args.text.now c.args.more c.args.start _ p (omega arith) (omega arith) (sym c.is_quote.ensures ∙ c.if-is_quote.true)) c.read_item.ensures
 
 pub returns : goal.returns
 returns c = let p = c.past_blanks-at.ensures in
-    same_step c.args.text.now _ _ c.args.used _ c.read_item-2.new.buffer c.read_item-2.result (step_bare c.args.text.now c.args.more c.args.start _ p (omega arith) c.if-more-eq0.false (sym c.is_quote.ensures ∙ c.if-is_quote.false)) c.read_item-2.ensures
+    same_step c.args.text.now _ _ c.args.used _ c.read_item-2.new.buffer c.read_item-2.result (step_bare c.args.text.now c.args.more c.args.start _ p (omega arith) (omega arith) (sym c.is_quote.ensures ∙ c.if-is_quote.false)) c.read_item-2.ensures

@@ -5,10 +5,10 @@ use Rattle.lines.proofs.FileLaws.{size_below, size_over, size_at}
 use Rattle.lines.proofs.file.too_long.Goals as goal
 
 pub returns-then-file-lt65535 : goal.returns-then-file-lt65535
-returns-then-file-lt65535 c = sym (size_below 65535 c.args.file.now c.if-file-lt65535.true)
+returns-then-file-lt65535 c = sym (size_below 65535 c.args.file.now (omega arith))
 
 pub returns-then-file-gt65535 : goal.returns-then-file-gt65535
-returns-then-file-gt65535 c = sym (size_over 65535 c.args.file.now c.if-file-gt65535.true)
+returns-then-file-gt65535 c = sym (size_over 65535 c.args.file.now (omega arith))
 
 pub returns : goal.returns
 returns c = sym (size_at 65534 c.args.file.now (omega arith))

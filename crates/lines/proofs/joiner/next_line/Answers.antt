@@ -13,23 +13,23 @@ use Rattle.lines.proofs.joiner.next_line.Goals as goal
 pub returns-then-buffer-lt4096 : goal.returns-then-buffer-lt4096
 returns-then-buffer-lt4096 c =
     let a = c.args in
-    promised a.file.now a.cursor a.buffer.now a.buffer.now _ _ (next_short a.file.now a.cursor (length a.buffer.now) c.if-buffer-lt4096.true) refl refl
+    promised a.file.now a.cursor a.buffer.now a.buffer.now _ _ (next_short a.file.now a.cursor (length a.buffer.now) (omega arith)) refl refl
 
 pub returns-then-file-cursor : goal.returns-then-file-cursor
 returns-then-file-cursor c =
     let a = c.args in
-    promised a.file.now a.cursor a.buffer.now a.buffer.now _ _ (next_none a.file.now a.cursor (length a.buffer.now) c.if-buffer-lt4096.false (from_past a.file.now a.cursor (omega arith))) refl refl
+    promised a.file.now a.cursor a.buffer.now a.buffer.now _ _ (next_none a.file.now a.cursor (length a.buffer.now) (omega arith) (from_past a.file.now a.cursor (omega arith))) refl refl
 
 pub returns-then-cursor : goal.returns-then-cursor
 returns-then-cursor c =
     let a = c.args in
-    promised a.file.now a.cursor a.buffer.now a.buffer.now _ _ (next_none a.file.now a.cursor (length a.buffer.now) c.if-buffer-lt4096.false (from_outside a.file.now a.cursor c.if-cursor.true)) refl refl
+    promised a.file.now a.cursor a.buffer.now a.buffer.now _ _ (next_none a.file.now a.cursor (length a.buffer.now) (omega arith) (from_outside a.file.now a.cursor c.if-cursor.true)) refl refl
 
 pub returns-then-file-at : goal.returns-then-file-at
 returns-then-file-at c =
     let a = c.args in
     let k = c.skip_comments-start in
-    promised a.file.now a.cursor a.buffer.now a.buffer.now _ _ (next_over a.file.now a.cursor k.result (length a.buffer.now) c.if-buffer-lt4096.false c.if-cursor.false k.ensures c.if-file-at.true) refl refl
+    promised a.file.now a.cursor a.buffer.now a.buffer.now _ _ (next_over a.file.now a.cursor k.result (length a.buffer.now) (omega arith) c.if-cursor.false k.ensures c.if-file-at.true) refl refl
 
 pub measure-m-requires : goal.measure-m-requires
 measure-m-requires c =
@@ -45,7 +45,7 @@ returns-then-length-gt4096 c =
     let a = c.args in
     let k = c.skip_comments-start in
     let m = c.measure-m in
-    promised a.file.now a.cursor a.buffer.now a.buffer.now _ _ (next_too_long a.file.now a.cursor k.result (length a.buffer.now) c.if-buffer-lt4096.false c.if-cursor.false k.ensures m.result m.ensures c.if-length-gt4096.true) refl refl
+    promised a.file.now a.cursor a.buffer.now a.buffer.now _ _ (next_too_long a.file.now a.cursor k.result (length a.buffer.now) (omega arith) c.if-cursor.false k.ensures m.result m.ensures (omega arith)) refl refl
 
 pub copy_joined-requires : goal.copy_joined-requires
 copy_joined-requires c =
@@ -65,6 +65,6 @@ returns c =
     let k = c.skip_comments-start in
     let m = c.measure-m in
     promised a.file.now a.cursor a.buffer.now _ _ _
-    (next-measured a.file.now a.cursor k.result (length a.buffer.now) c.if-buffer-lt4096.false c.if-cursor.false k.ensures m.result m.ensures c.if-length-gt4096.false)
-    (answer_measured a.file.now a.cursor k.result (length a.buffer.now) c.if-buffer-lt4096.false c.if-cursor.false k.ensures m.result m.ensures)
+    (next-measured a.file.now a.cursor k.result (length a.buffer.now) (omega arith) c.if-cursor.false k.ensures m.result m.ensures (omega arith))
+    (answer_measured a.file.now a.cursor k.result (length a.buffer.now) (omega arith) c.if-cursor.false k.ensures m.result m.ensures)
     (c.copy_joined.ensures ∙ ap (λ (r : List Line). filled (first_bytes r) a.buffer.now) m.ensures.view)

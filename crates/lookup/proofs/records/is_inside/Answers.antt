@@ -11,4 +11,4 @@ pub returns-then-text-start : goal.returns-then-text-start
 returns-then-text-start c = let a = c.args in sym (lt-leb (a.start + a.size) (length a.text.now) (omega (arith, c.if-text-start.true)))
 
 pub returns : goal.returns
-returns c = fits-behind _ _ _ c.if-text-start.false
+returns c = fits-behind _ _ _ (omega arith)

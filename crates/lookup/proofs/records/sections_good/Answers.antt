@@ -9,7 +9,7 @@ loop-left-init c = walked_start _ _ _ _ (sections_by_records _ _) _
 
 pub returns-then-sections-at-lt2 : goal.returns-then-sections-at-lt2
 returns-then-sections-at-lt2 c = let a = c.args in
-    walked_short _ _ _ _ (sections_by_records a.text.now a.sections.now) a.count c.loop-left.at c.loop-left.left c.loop-left.invariant c.loop-left-test.true c.if-sections-at-lt2.true
+    walked_short _ _ _ _ (sections_by_records a.text.now a.sections.now) a.count c.loop-left.at c.loop-left.left c.loop-left.invariant c.loop-left-test.true (omega arith)
 
 pub returns-then-not-is_inside : goal.returns-then-not-is_inside
 returns-then-not-is_inside c = let a = c.args in

@@ -14,17 +14,17 @@ returns-then-not-holds_table c = let a = c.args in
 
 pub returns-then-entry_count-index : goal.returns-then-entry_count-index
 returns-then-entry_count-index c = let a = c.args in
-    value_missing (lent a.text.now a.sections.now a.section_count a.entries.now a.entry_count) a.index (sym c.holds_table.ensures ∙ c.if-not-holds_table.false) c.if-entry_count-index.true
+    value_missing (lent a.text.now a.sections.now a.section_count a.entries.now a.entry_count) a.index (sym c.holds_table.ensures ∙ c.if-not-holds_table.false) (omega arith)
 
 pub overflow_mul-index : goal.overflow_mul-index
 overflow_mul-index c = let a = c.args in
-    let k : 5 * a.index + 5 ≤ length a.entries.now = record_of (lent a.text.now a.sections.now a.section_count a.entries.now a.entry_count) a.index (sym c.holds_table.ensures ∙ c.if-not-holds_table.false) c.if-entry_count-index.false in
+    let k : 5 * a.index + 5 ≤ length a.entries.now = record_of (lent a.text.now a.sections.now a.section_count a.entries.now a.entry_count) a.index (sym c.holds_table.ensures ∙ c.if-not-holds_table.false) (omega arith) in
     omega (arith, k)
 
 pub value_part-requires : goal.value_part-requires
 value_part-requires c = let a = c.args in
-    record_of (lent a.text.now a.sections.now a.section_count a.entries.now a.entry_count) a.index (sym c.holds_table.ensures ∙ c.if-not-holds_table.false) c.if-entry_count-index.false
+    record_of (lent a.text.now a.sections.now a.section_count a.entries.now a.entry_count) a.index (sym c.holds_table.ensures ∙ c.if-not-holds_table.false) (omega arith)
 
 pub returns : goal.returns
 returns c = let a = c.args in
-    ap value_means c.value_part.ensures ∙ value_there (lent a.text.now a.sections.now a.section_count a.entries.now a.entry_count) a.index (sym c.holds_table.ensures ∙ c.if-not-holds_table.false) c.if-entry_count-index.false
+    ap value_means c.value_part.ensures ∙ value_there (lent a.text.now a.sections.now a.section_count a.entries.now a.entry_count) a.index (sym c.holds_table.ensures ∙ c.if-not-holds_table.false) (omega arith)

@@ -19,7 +19,7 @@ loop-next-smaller c = let a = c.args in
 pub loop-next-preserved : goal.loop-next-preserved
 loop-next-preserved c = let a = c.args in
     let k = c.read_line.ensures c.loop-next.invariant.0.table a.text.now a.sections.now a.entries.now c.loop-next.invariant.0.holds in
-    (reading_more a.file.now a.text.now a.sections.now a.entries.now c.loop-next.text c.loop-next.sections c.loop-next.entries c.loop-next.progress c.loop-next.invariant.0 c.read_line.new.text c.read_line.new.sections c.read_line.new.entries c.read_line.result k c.in-Go.next c.in-Go.is (search rules) (search rules) (search (rules, c.entries-1.given)), search rules, search rules)
+    (reading_more a.file.now a.text.now a.sections.now a.entries.now c.loop-next.text c.loop-next.sections c.loop-next.entries c.loop-next.progress c.loop-next.invariant.0 c.read_line.new.text c.read_line.new.sections c.read_line.new.entries c.read_line.result k c.in-Go.next c.in-Go.is (search rules) (search rules) (search rules), search rules, search rules)
 
 pub returns-in-End : goal.returns-in-End
 returns-in-End c = let a = c.args in
