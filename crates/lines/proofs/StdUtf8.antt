@@ -106,7 +106,7 @@ of_four a b c d l l1 h1 l2 h2 l3 h3 low top =
 -- what the rows of three and of four bytes say of the first byte and the range of the second
 abbrev Three : ℕ → ℕ → ℕ → Type 0
 Three b low high =
-    (0xE0 ≤ b) × (b ≤ 0xEF) × (0x80 ≤ low) × (high ≤ 0xBF) × (0xE0 * 0x40 + 0xA0 ≤ b * 0x40 + low)
+    ((0xE0 ≤ b) × (b ≤ 0xEF) × (0x80 ≤ low) × (high ≤ 0xBF) × (0xE0 * 0x40 + 0xA0 ≤ b * 0x40 + low))
     × ((b * 0x40 + high ≤ 0xED * 0x40 + 0x9F) ⊎ (0xEE ≤ b))
 
 abbrev Four : ℕ → ℕ → ℕ → Type 0
@@ -134,10 +134,10 @@ module _ (b : ℕ) (P : Option (List Range) → Type 0) where
   by_row one two three four none_has =
       or_row 0 0x00 0x7F _ refl (λ l h. one h)
       (or_row 1 0xC2 0xDF _ refl two
-      (or_row 2 0xE0 0xE0 _ refl (λ l h. three 0xA0 0xBF (omega arith, omega arith, omega arith, omega arith, omega arith, inl (omega arith)))
-      (or_row 3 0xE1 0xEC _ refl (λ l h. three 0x80 0xBF (omega arith, omega arith, omega arith, omega arith, omega arith, inl (omega arith)))
-      (or_row 4 0xED 0xED _ refl (λ l h. three 0x80 0x9F (omega arith, omega arith, omega arith, omega arith, omega arith, inl (omega arith)))
-      (or_row 5 0xEE 0xEF _ refl (λ l h. three 0x80 0xBF (omega arith, omega arith, omega arith, omega arith, omega arith, inr l))
+      (or_row 2 0xE0 0xE0 _ refl (λ l h. three 0xA0 0xBF (omega arith, inl (omega arith)))
+      (or_row 3 0xE1 0xEC _ refl (λ l h. three 0x80 0xBF (omega arith, inl (omega arith)))
+      (or_row 4 0xED 0xED _ refl (λ l h. three 0x80 0x9F (omega arith, inl (omega arith)))
+      (or_row 5 0xEE 0xEF _ refl (λ l h. three 0x80 0xBF (omega arith, inr l))
       (or_row 6 0xF0 0xF0 _ refl (λ l h. four 0x90 0xBF (omega arith))
       (or_row 7 0xF1 0xF3 _ refl (λ l h. four 0x80 0xBF (omega arith))
       (or_row 8 0xF4 0xF4 _ refl (λ l h. four 0x80 0x8F (omega arith)) none_has))))))))
@@ -165,7 +165,7 @@ module _ (b n : ℕ) (of_rest : (bs : Bytes) → length bs ≤ n → well [] bs 
       let i = in_range low high c (and_left (between low high c) (between 0x80 0xBF d && well [] bs) w) in
       let j = in_range 0x80 0xBF d (and_left (between 0x80 0xBF d) (well [] bs) v) in
       IsUtf8-append (b ∷ c ∷ d ∷ []) bs
-      (of_three b c d k.0 k.1 (omega arith) (omega arith) j.0 j.1 (omega arith) (⊎_elim (λ q. inl (omega arith)) inr k.5))
+      (of_three b c d k.0.0 k.0.1 (omega arith) (omega arith) j.0 j.1 (omega arith) (⊎_elim (λ q. inl (omega arith)) inr k.1))
       (of_rest bs (omega arith) (and_right (between 0x80 0xBF d) (well [] bs) v))
 
   four_more : (bs : Bytes) → length bs ≤ n → (low high : ℕ) → Four b low high
