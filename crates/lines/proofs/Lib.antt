@@ -15,6 +15,7 @@ pub mod Utf8Laws
 pub mod Characters
 pub mod LongestStart
 pub mod Encoded
+pub mod StdUtf8
 pub mod FileLaws
 -- physical and logical lines
 pub mod Runs
