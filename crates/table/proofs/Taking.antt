@@ -1,4 +1,5 @@
 -- One line more in a table that the buffers hold, by the tests that the code makes.
+use Rattle.std.specs.Prelude.{Ok, Err}
 use Rattle.std.proofs.Common.{◌≡◌, ℕ, ◌+◌, ◌-◌, ◌<◌, ◌≤◌, List, length, sym, refl, ap, ◌∙◌, subst, arith, le-ltb, lt-ltb}
 use mathlib.Core.Option.{Option, none, some}
 use Rattle.lines.specs.Bytes.{Bytes}
@@ -9,7 +10,6 @@ use Rattle.table.specs.Contents.{text_of, section_record, entry_record, records_
 use Rattle.table.specs.Steps.{SectionFound, current_of, SectionPut, EntryPut, Held, TakesHeader, TakesEntry}
 use Rattle.table.specs.declared.error.Error.TheVariants.{NoSection, TooMany}
 use Rattle.table.specs.declared.state.State.{State}
-use Rattle.table.specs.declared.state.Step.TheVariants.{Go, Refused}
 use Rattle.table.proofs.Search.{table_known, table_new}
 use Rattle.table.proofs.Puts.{numbers_kept, same_counts, section_held, entry-held}
 
@@ -38,7 +38,7 @@ module _ (x : Bytes) (n : ℕ) (s : State) (text : Bytes) (sections : List ℕ) 
 
   -- it goes on with an earlier section
   pub header_known : i < s.sections
-      → TakesHeader (header x) n s text sections (Go (record { text = s.text; sections = s.sections; entries = s.entries; current = i + 1 })) text sections
+      → TakesHeader (header x) n s text sections (Ok (record { text = s.text; sections = s.sections; entries = s.entries; current = i + 1 })) text sections
   unfolding act opened
   header_known l t d e h =
       record {
@@ -56,14 +56,14 @@ module _ (x : Bytes) (n : ℕ) (s : State) (text : Bytes) (sections : List ℕ) 
       }
 
   -- the 65th section
-  pub header_many : s.sections ≤ i → 64 ≤ s.sections → TakesHeader (header x) n s text sections (Refused (TooMany n)) text sections
+  pub header_many : s.sections ≤ i → 64 ≤ s.sections → TakesHeader (header x) n s text sections (Err (TooMany n)) text sections
   unfolding act opened
   header_many l m t d e h =
       rw (index_new t d e h l, le-ltb (length (names t.events)) 64 (omega (arith, counted t d e h)))
 
   -- a new section
   pub header_new : s.sections ≤ i → s.sections < 64 → (r : State) (text' : Bytes) (sections' : List ℕ)
-      → SectionPut x s text sections r text' sections' → TakesHeader (header x) n s text sections (Go r) text' sections'
+      → SectionPut x s text sections r text' sections' → TakesHeader (header x) n s text sections (Ok r) text' sections'
   unfolding act opened
   header_new l m r text' sections' p t d e h =
       record {
@@ -86,7 +86,7 @@ open_out (some j) q = absurd (omega arith)
 
 module _ (k v : Bytes) (n : ℕ) (s : State) (text : Bytes) (numbers : List ℕ) where
   -- before any header
-  pub entry_outside : s.current ≡ 0 → TakesEntry (entry k v) n s text numbers (Refused (NoSection n)) text numbers
+  pub entry_outside : s.current ≡ 0 → TakesEntry (entry k v) n s text numbers (Err (NoSection n)) text numbers
   unfolding act added
   entry_outside q t d e h =
       let o : t.current ≡ none = open_out t.current (sym (ap (λ (z : State). z.current) h.state) ∙ q) in
@@ -103,7 +103,7 @@ module _ (k v : Bytes) (n : ℕ) (s : State) (text : Bytes) (numbers : List ℕ)
         open_in t.current (λ z. q (c ∙ z)) ∙ ap (λ (z : ℕ). some (z - 1)) (sym c)
 
     -- the 513th
-    pub entry_many : 512 ≤ s.entries → TakesEntry (entry k v) n s text numbers (Refused (TooMany n)) text numbers
+    pub entry_many : 512 ≤ s.entries → TakesEntry (entry k v) n s text numbers (Err (TooMany n)) text numbers
     unfolding act added
     entry_many m t d e h =
         let c : s.entries ≡ length (entries t.events) = ap (λ (z : State). z.entries) h.state in
@@ -111,7 +111,7 @@ module _ (k v : Bytes) (n : ℕ) (s : State) (text : Bytes) (numbers : List ℕ)
 
     -- one more
     pub entry_new : s.entries < 512 → s.text ≤ length text → (r : State) (text' : Bytes) (numbers' : List ℕ)
-        → EntryPut i k v s text numbers r text' numbers' → TakesEntry (entry k v) n s text numbers (Go r) text' numbers'
+        → EntryPut i k v s text numbers r text' numbers' → TakesEntry (entry k v) n s text numbers (Ok r) text' numbers'
     unfolding act added
     entry_new m l r text' numbers' p t d e h =
         let c : s.entries ≡ length (entries t.events) = ap (λ (z : State). z.entries) h.state in

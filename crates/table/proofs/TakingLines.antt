@@ -1,4 +1,5 @@
 -- One logical line more in a table that the buffers hold: its kind, by the tests that the code makes on its bytes.
+use Rattle.std.specs.Prelude.{Ok, Err, Result}
 use Rattle.std.proofs.Common.{◌≡◌, ℕ, suc, ◌+◌, ◌-◌, ◌<◌, ◌≤◌, true, false, eqb, List, [], ◌∷◌, ◌++◌, length, get_or, take, drop, sym, refl, ap, ◌∙◌, subst, arith, length-append, length-take, take_at, eq-eqb, ne_eqb}
 use Rattle.lines.specs.Bytes.{Bytes, key_byte, any}
 use Rattle.lines.specs.Trim.{trim_start, trim_end, trimmed}
@@ -11,26 +12,25 @@ use Rattle.table.specs.LineKinds.{Kind, header, entry, one_or_more, before, behi
 use Rattle.table.specs.Tables.{Event, Table, act}
 use Rattle.table.specs.Contents.{section_record, entry_record}
 use Rattle.table.specs.Steps.{Holds, StepTaken, Takes, TakesHeader, TakesEntry, LineTaken, TakesLine}
+use Rattle.table.specs.declared.error.Error.{Error}
 use Rattle.table.specs.declared.error.Error.TheVariants.{BadHeader, NoEqualsSign, BadKey}
 use Rattle.table.specs.declared.state.State.{State}
-use Rattle.table.specs.declared.state.Step.{Step}
-use Rattle.table.specs.declared.state.Step.TheVariants.{Go, Refused}
 use Rattle.table.proofs.Parts.{parted}
 use Rattle.table.proofs.Scans.{name_part}
 
 -- a line is taken for the kind that it is
-as_kind : (f g : ℕ → Event → List ℕ) (k k' : Kind) (n : ℕ) (s : State) (text : Bytes) (numbers : List ℕ) (r : Step) (text' : Bytes) (numbers' : List ℕ)
+as_kind : (f g : ℕ → Event → List ℕ) (k k' : Kind) (n : ℕ) (s : State) (text : Bytes) (numbers : List ℕ) (r : Result State Error) (text' : Bytes) (numbers' : List ℕ)
     → k ≡ k' → Takes f g k n s text numbers r text' numbers' → Takes f g k' n s text numbers r text' numbers'
 as_kind f g k k' n s text numbers r text' numbers' e h = subst (λ (z : Kind). Takes f g z n s text numbers r text' numbers') e h
 
 -- ---- a line that starts with [
 
 module _ (l : Bytes) (n : ℕ) (s : State) (text : Bytes) (sections : List ℕ) where
-  pub header_bad : is_header l ≡ false → TakesHeader (header_kind l) n s text sections (Refused (BadHeader n)) text sections
+  pub header_bad : is_header l ≡ false → TakesHeader (header_kind l) n s text sections (Err (BadHeader n)) text sections
   unfolding header_kind act
   header_bad e t d f h = rw e
 
-  pub header_good : is_header l ≡ true → (r : Step) (text' : Bytes) (sections' : List ℕ)
+  pub header_good : is_header l ≡ true → (r : Result State Error) (text' : Bytes) (sections' : List ℕ)
       → TakesHeader (header (take (length l - 1 - 0) l)) n s text sections r text' sections'
       → TakesHeader (header_kind l) n s text sections r text' sections'
   unfolding header_kind
@@ -93,13 +93,13 @@ module _ (l : Bytes) (at : ℕ) (f : at ≡ length (before 0x3D l)) (h : at < le
         omega (arith, a, b, length-take (at - 0) l, length-take (length l - (at + 1)) (drop (at + 1) l))
 
     module _ (n : ℕ) (s : State) (text : Bytes) (entries : List ℕ) where
-      pub key_bad : one_or_more key_byte k ≡ false → TakesEntry (entry_kind l) n s text entries (Refused (BadKey n)) text entries
+      pub key_bad : one_or_more key_byte k ≡ false → TakesEntry (entry_kind l) n s text entries (Err (BadKey n)) text entries
       unfolding entry_kind act
       key_bad e t d g h =
           let m : one_or_more key_byte (key_of l) ≡ false = ap (one_or_more key_byte) (sym key_is) ∙ e in
           rw (there, m)
 
-      pub key_good : one_or_more key_byte k ≡ true → (r : Step) (text' : Bytes) (entries' : List ℕ)
+      pub key_good : one_or_more key_byte k ≡ true → (r : Result State Error) (text' : Bytes) (entries' : List ℕ)
           → TakesEntry (entry k v) n s text entries r text' entries' → TakesEntry (entry_kind l) n s text entries r text' entries'
       unfolding entry_kind
       key_good e r text' entries' h =
@@ -108,7 +108,7 @@ module _ (l : Bytes) (at : ℕ) (f : at ≡ length (before 0x3D l)) (h : at < le
           (rw (key_is, value_is, there, m)) h
 
 pub sign_missing : (l : Bytes) (at : ℕ) → at ≡ length (before 0x3D l) → length l ≤ at
-    → (n : ℕ) (s : State) (text : Bytes) (entries : List ℕ) → TakesEntry (entry_kind l) n s text entries (Refused (NoEqualsSign n)) text entries
+    → (n : ℕ) (s : State) (text : Bytes) (entries : List ℕ) → TakesEntry (entry_kind l) n s text entries (Err (NoEqualsSign n)) text entries
 unfolding entry_kind act
 sign_missing l at f h n s text entries t d g k = rw (no_sign l (omega arith))
 
@@ -117,8 +117,8 @@ sign_missing l at f h n s text entries t d g k = rw (no_sign l (omega arith))
 -- what a step leaves in one buffer of numbers, and in both
 module _ (t : Table) (o : Outcome Table) (s : State) (d text text' : Bytes) (e sections sections' g entries entries' : List ℕ)
     (h : Holds t s d text e sections g entries) where
-  both_sections : (r : Step) → StepTaken section_record entry_record t o d text' e sections' r → LineTaken o d text' e sections' g entries r
-  both_sections (Go u) k = (
+  both_sections : (r : Result State Error) → StepTaken section_record entry_record t o d text' e sections' r → LineTaken o d text' e sections' g entries r
+  both_sections (Ok u) k = (
     k.table,
     k.outcome,
     record {
@@ -129,10 +129,10 @@ module _ (t : Table) (o : Outcome Table) (s : State) (d text text' : Bytes) (e s
       entries_are = h.entries_are ∙ ap (λ (z : List ℕ). filled z g) (sym k.others);
     },
   )
-  both_sections (Refused q) k = k
+  both_sections (Err q) k = k
 
-  both_entries : (r : Step) → StepTaken entry_record section_record t o d text' g entries' r → LineTaken o d text' e sections g entries' r
-  both_entries (Go u) k = (
+  both_entries : (r : Result State Error) → StepTaken entry_record section_record t o d text' g entries' r → LineTaken o d text' e sections g entries' r
+  both_entries (Ok u) k = (
     k.table,
     k.outcome,
     record {
@@ -143,14 +143,14 @@ module _ (t : Table) (o : Outcome Table) (s : State) (d text text' : Bytes) (e s
       entries_are = k.held.numbers_are;
     },
   )
-  both_entries (Refused q) k = k
+  both_entries (Err q) k = k
 
 module _ (l : Bytes) (n : ℕ) (s : State) (text : Bytes) (sections entries : List ℕ) where
-  pub line_empty : length l ≡ 0 → TakesLine (kind l) n s text sections entries (Go s) text sections entries
+  pub line_empty : length l ≡ 0 → TakesLine (kind l) n s text sections entries (Ok s) text sections entries
   unfolding kind act
   line_empty e t d f g h = go l e
     where
-      go : (l : Bytes) → length l ≡ 0 → LineTaken (act n t (kind l)) d text f sections g entries (Go s)
+      go : (l : Bytes) → length l ≡ 0 → LineTaken (act n t (kind l)) d text f sections g entries (Ok s)
       go [] e = (t, refl, h)
       go (b ∷ bs) e = absurd (omega arith)
 
@@ -170,7 +170,7 @@ module _ (l : Bytes) (n : ℕ) (s : State) (text : Bytes) (sections entries : Li
     unfolding kind
     starts_entry e = first (entry_kind l) (λ b bs q. let z : eqb b 0x5B ≡ false = ap (λ (x : Bytes). eqb (get_or x 0 0) 0x5B) (sym q) ∙ e in rw (z, q))
 
-    pub line_header : get_or l 0 0 ≡ 0x5B → (r : Step) (text' : Bytes) (sections' : List ℕ)
+    pub line_header : get_or l 0 0 ≡ 0x5B → (r : Result State Error) (text' : Bytes) (sections' : List ℕ)
         → TakesHeader (header_kind (take (length l - 1) (drop 1 l))) n s text sections r text' sections'
         → TakesLine (kind l) n s text sections entries r text' sections' entries
     line_header e r text' sections' k t d f g h =
@@ -178,7 +178,7 @@ module _ (l : Bytes) (n : ℕ) (s : State) (text : Bytes) (sections entries : Li
         rw q (both_sections t _ s d text text' f sections sections' g entries entries h r
         (k t d f (record { apart = h.apart; state = h.state; text_is = h.text_is; numbers_are = h.sections_are })))
 
-    pub line_entry : (get_or l 0 0 ≡ 0x5B → ⊥) → (r : Step) (text' : Bytes) (entries' : List ℕ)
+    pub line_entry : (get_or l 0 0 ≡ 0x5B → ⊥) → (r : Result State Error) (text' : Bytes) (entries' : List ℕ)
         → TakesEntry (entry_kind l) n s text entries r text' entries'
         → TakesLine (kind l) n s text sections entries r text' sections entries'
     line_entry e r text' entries' k t d f g h =
@@ -186,7 +186,7 @@ module _ (l : Bytes) (n : ℕ) (s : State) (text : Bytes) (sections entries : Li
         (k t d g (record { apart = h.apart; state = h.state; text_is = h.text_is; numbers_are = h.entries_are })))
 
 -- the bytes that were trimmed
-pub for_trimmed : (l m : Bytes) (n : ℕ) (s : State) (text : Bytes) (sections entries : List ℕ) (r : Step) (text' : Bytes) (sections' entries' : List ℕ)
+pub for_trimmed : (l m : Bytes) (n : ℕ) (s : State) (text : Bytes) (sections entries : List ℕ) (r : Result State Error) (text' : Bytes) (sections' entries' : List ℕ)
     → l ≡ m → TakesLine (kind l) n s text sections entries r text' sections' entries'
     → TakesLine (kind m) n s text sections entries r text' sections' entries'
 for_trimmed l m n s text sections entries r text' sections' entries' e h =

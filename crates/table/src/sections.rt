@@ -5,7 +5,7 @@ ghost use Rattle.table.specs.Steps.{is_named, SectionFound, SectionPut, TakesHea
 
 use crate::error::Error;
 use crate::order::{guess_section, put_in_order};
-use crate::state::{State, Step};
+use crate::state::State;
 
 // Whether a part of the text is this name. One that is not inside the text is no name.
 fn is_named(name: &[u8], text: &[u8], start: usize, length: usize) -> bool
@@ -74,7 +74,7 @@ pub(crate) fn open_section(
     text: &mut [u8],
     sections: &mut [usize],
     order: &mut [usize],
-) -> Step
+) -> Result<State, Error>
     requires { (state.text + length name.now ≤ length text.old) × (state.sections ≤ 64) × (128 ≤ length sections.old) × (128 ≤ length order.old) }
     ensures { TakesHeader (header name.now) number state text.old sections.old result text.new sections.new }
 {
@@ -82,7 +82,7 @@ pub(crate) fn open_section(
     let guess = guess_section(name, text, sections, count, order);
     let index = find_section(name, text, sections, count, guess);
     if index < count {
-        return Step::Go(State {
+        return Ok(State {
             text: state.text,
             sections: count,
             entries: state.entries,
@@ -90,8 +90,8 @@ pub(crate) fn open_section(
         });
     }
     if 64 <= count {
-        return Step::Refused(Error::TooMany(number));
+        return Err(Error::TooMany(number));
     }
     put_in_order(name, text, sections, count, order);
-    Step::Go(put_section(name, state, text, sections))
+    Ok(put_section(name, state, text, sections))
 }

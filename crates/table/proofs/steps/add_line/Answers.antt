@@ -1,7 +1,7 @@
 -- `add_line`: an empty line, a header, or an entry, by the first byte of the trimmed line.
 use Rattle.std.proofs.Common.{length, arith}
 use Rattle.lines.specs.Trim.{trimmed}
-use Rattle.table.specs.declared.state.Step.TheVariants.{Go}
+use Rattle.std.specs.Prelude.{Ok}
 use Rattle.table.proofs.TakingLines.{line_empty, line_header, line_entry, for_trimmed, trimmed-fits, rest_fits}
 use Rattle.table.proofs.steps.add_line.Goals as goal
 
@@ -9,7 +9,7 @@ pub returns-then-trimmed-eq0 : goal.returns-then-trimmed-eq0
 returns-then-trimmed-eq0 c = let a = c.args in
     let m = c.trim-trimmed.result.now in
     let l = trimmed a.line.now in
-    for_trimmed m l a.number a.state a.text.now a.sections.now a.entries.now (Go a.state) a.text.now a.sections.now a.entries.now
+    for_trimmed m l a.number a.state a.text.now a.sections.now a.entries.now (Ok a.state) a.text.now a.sections.now a.entries.now
     c.trim-trimmed.ensures (line_empty m a.number a.state a.text.now a.sections.now a.entries.now c.if-trimmed-eq0.true)
 
 pub add_header_line-requires : goal.add_header_line-requires
