@@ -74,24 +74,27 @@ module _ (o : Outcome Table) (d text : Bytes) (e sections g entries : List ℕ) 
 
   -- what was read is copied
   pub apart_copied : (a a' : Bytes) (b b' c c' : List ℕ) → 65535 ≤ length a → 128 ≤ length b → 2560 ≤ length c
-      → a' ≡ cond (leb (0 + length (take (k.text - 0) text)) (length a)) (put a 0 (take (k.text - 0) text)) a
-      → b' ≡ cond (leb (0 + length (take (2 * k.sections - 0) sections)) (length b)) (put b 0 (take (2 * k.sections - 0) sections)) b
-      → c' ≡ cond (leb (0 + length (take (5 * k.entries - 0) entries)) (length c)) (put c 0 (take (5 * k.entries - 0) entries)) c
+      → a' ≡ cond (leb (0 + length (take k.text text)) (length a)) (put a 0 (take k.text text)) a
+      → b' ≡ cond (leb (0 + length (take (2 * k.sections) sections)) (length b)) (put b 0 (take (2 * k.sections) sections)) b
+      → c' ≡ cond (leb (0 + length (take (5 * k.entries) entries)) (length c)) (put c 0 (take (5 * k.entries) entries)) c
       → ReadLeaves o a b c (Ok k) a' b' c'
   apart_copied a a' b b' c c' la lb lc pa pb pc =
+      let u : k.text - 0 ≡ k.text = omega arith in
+      let v : 2 * k.sections - 0 ≡ 2 * k.sections = omega arith in
+      let w : 5 * k.entries - 0 ≡ 5 * k.entries = omega arith in
       let x : 2 * k.sections ≡ length (section_numbers h.table.events) = omega (arith, section_count_lem, sections_length 0 h.table.events) in
       let y : 5 * k.entries ≡ length (entry_numbers h.table.events) = omega (arith, entry_count_lem, entries-length 0 h.table.events) in
       record {
         answer = sym (ap counted h.outcome ∙ ap accepted counts_are);
         left = record {
           new_text =
-              front_copied (text_of h.table.events) d text a a' k.text h.holds.text_is text_count (omega (arith, counts_fit.0)) pa
+              front_copied (text_of h.table.events) d text a a' k.text h.holds.text_is text_count (omega (arith, counts_fit.0)) (rw u pa)
               ∙ sym (ap (λ (z : Outcome Table). text_after z a) h.outcome);
           new_sections =
-              front_copied (section_numbers h.table.events) e sections b b' (2 * k.sections) h.holds.sections_are x (omega (arith, counts_fit.1)) pb
+              front_copied (section_numbers h.table.events) e sections b b' (2 * k.sections) h.holds.sections_are x (omega (arith, counts_fit.1)) (rw v pb)
               ∙ sym (ap (λ (z : Outcome Table). sections_after z b) h.outcome);
           new_entries =
-              front_copied (entry_numbers h.table.events) g entries c c' (5 * k.entries) h.holds.entries_are y (omega (arith, counts_fit.2)) pc
+              front_copied (entry_numbers h.table.events) g entries c c' (5 * k.entries) h.holds.entries_are y (omega (arith, counts_fit.2)) (rw w pc)
               ∙ sym (ap (λ (z : Outcome Table). entries_after z c) h.outcome);
         };
       }

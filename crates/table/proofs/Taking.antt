@@ -1,5 +1,5 @@
 -- One line more in a table that the buffers hold, by the tests that the code makes.
-use Rattle.std.specs.Prelude.{Ok, Err}
+use Rattle.std.specs.Prelude.{Option as CodeOption, Some, None, Ok, Err}
 use Rattle.std.proofs.Common.{◌≡◌, ℕ, ◌+◌, ◌-◌, ◌<◌, ◌≤◌, List, length, sym, refl, ap, ◌∙◌, subst, arith, le-ltb, lt-ltb}
 use mathlib.Core.Option.{Option, none, some}
 use Rattle.lines.specs.Bytes.{Bytes}
@@ -15,35 +15,33 @@ use Rattle.table.proofs.Puts.{numbers_kept, same_counts, section_held, entry-hel
 
 -- ---- a header
 
-module _ (x : Bytes) (n : ℕ) (s : State) (text : Bytes) (sections : List ℕ) (i : ℕ)
-    (f : SectionFound x text s.sections sections i) where
+module _ (x : Bytes) (n : ℕ) (s : State) (text : Bytes) (sections : List ℕ) where
   module _ (t : Table) (d : Bytes) (e : List ℕ) (h : Held section_record t s d text e sections) where
     -- what was found, in the buffers of the table that is held
-    found : SectionFound x (filled (text_of t.events) d) (length (names t.events)) (filled (records_from section_record 0 t.events) e) i
-    found =
-        subst (λ (z : List ℕ). SectionFound x (filled (text_of t.events) d) (length (names t.events)) z i) h.numbers_are
-        (subst (λ (z : Bytes). SectionFound x z (length (names t.events)) sections i) h.text_is
-        (subst (λ (z : State). SectionFound x text z.sections sections i) h.state f))
+    found : (r : CodeOption ℕ) → SectionFound x text s.sections sections r
+        → SectionFound x (filled (text_of t.events) d) (length (names t.events)) (filled (records_from section_record 0 t.events) e) r
+    found r f =
+        subst (λ (z : List ℕ). SectionFound x (filled (text_of t.events) d) (length (names t.events)) z r) h.numbers_are
+        (subst (λ (z : Bytes). SectionFound x z (length (names t.events)) sections r) h.text_is
+        (subst (λ (z : State). SectionFound x text z.sections sections r) h.state f))
 
     counted : s.sections ≡ length (names t.events)
     counted = ap (λ (z : State). z.sections) h.state
 
-    index_known : i < s.sections → index_of x (names t.events) ≡ some i
-    index_known l =
-        let m : i < length (names t.events) = omega (arith, counted) in
-        table_known t.events x d e i h.apart m (found.known m)
+    index_known : (i : ℕ) → SectionFound x text s.sections sections (Some i) → index_of x (names t.events) ≡ some i
+    index_known i f = let g = found (Some i) f in table_known t.events x d e i h.apart g.0 g.1
 
-    index_new : s.sections ≤ i → index_of x (names t.events) ≡ none
-    index_new l = table_new t.events x d e (found.new (omega (arith, counted)))
+    index_new : SectionFound x text s.sections sections None → index_of x (names t.events) ≡ none
+    index_new f = table_new t.events x d e (found None f)
 
   -- it goes on with an earlier section
-  pub header_known : i < s.sections
+  pub header_known : (i : ℕ) → SectionFound x text s.sections sections (Some i)
       → TakesHeader (header x) n s text sections (Ok (record { text = s.text; sections = s.sections; entries = s.entries; current = i + 1 })) text sections
   unfolding act opened
-  header_known l t d e h =
+  header_known i f t d e h =
       record {
         table = record { events = t.events; current = some i };
-        outcome = rw (index_known t d e h l);
+        outcome = rw (index_known t d e h i f);
         held = record {
           apart = h.apart;
           state =
@@ -55,23 +53,24 @@ module _ (x : Bytes) (n : ℕ) (s : State) (text : Bytes) (sections : List ℕ) 
         others = refl;
       }
 
-  -- the 65th section
-  pub header_many : s.sections ≤ i → 64 ≤ s.sections → TakesHeader (header x) n s text sections (Err (TooMany n)) text sections
-  unfolding act opened
-  header_many l m t d e h =
-      rw (index_new t d e h l, le-ltb (length (names t.events)) 64 (omega (arith, counted t d e h)))
+  module _ (f : SectionFound x text s.sections sections None) where
+    -- the 65th section
+    pub header_many : 64 ≤ s.sections → TakesHeader (header x) n s text sections (Err (TooMany n)) text sections
+    unfolding act opened
+    header_many m t d e h =
+        rw (index_new t d e h f, le-ltb (length (names t.events)) 64 (omega (arith, counted t d e h)))
 
-  -- a new section
-  pub header_new : s.sections ≤ i → s.sections < 64 → (r : State) (text' : Bytes) (sections' : List ℕ)
-      → SectionPut x s text sections r text' sections' → TakesHeader (header x) n s text sections (Ok r) text' sections'
-  unfolding act opened
-  header_new l m r text' sections' p t d e h =
-      record {
-        table = with t (new_section x) (length (names t.events));
-        outcome = rw (index_new t d e h l, lt-ltb (length (names t.events)) 64 (omega (arith, counted t d e h)));
-        held = section_held t d e x (index_new t d e h l) s text sections h r text' sections' p;
-        others = numbers_kept t.events (new_section x) entry_record refl;
-      }
+    -- a new section
+    pub header_new : s.sections < 64 → (r : State) (text' : Bytes) (sections' : List ℕ)
+        → SectionPut x s text sections r text' sections' → TakesHeader (header x) n s text sections (Ok r) text' sections'
+    unfolding act opened
+    header_new m r text' sections' p t d e h =
+        record {
+          table = with t (new_section x) (length (names t.events));
+          outcome = rw (index_new t d e h f, lt-ltb (length (names t.events)) 64 (omega (arith, counted t d e h)));
+          held = section_held t d e x (index_new t d e h f) s text sections h r text' sections' p;
+          others = numbers_kept t.events (new_section x) entry_record refl;
+        }
 
 -- ---- an entry
 

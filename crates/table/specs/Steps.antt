@@ -7,7 +7,7 @@ use Rattle.lines.specs.Lines.{Line}
 use Rattle.lines.specs.Answers.{Outcome, accepted}
 use Rattle.lines.specs.Buffers.{filled, put}
 use Rattle.lines.specs.Cursors.{logical_from}
-use Rattle.table.specs.LineKinds.{Kind}
+use Rattle.table.specs.LineKinds.{Kind, before}
 use Rattle.table.specs.Tables.{Event, Table, names, entries, act, step, run}
 use Rattle.table.specs.Contents.{text_of, section_record, entry_record, records_from, section_numbers, entry_numbers}
 use Rattle.table.specs.Answers.{error_means}
@@ -16,6 +16,13 @@ use Rattle.table.specs.declared.state.State.{State}
 use Rattle.table.specs.declared.error.Error.{Error}
 use Rattle.table.specs.declared.state.Counts.{Counts}
 use Rattle.table.specs.declared.reader.Progress.{Progress}
+
+-- ---- the parts of a line
+
+-- the index of the first byte c, or none where there is none
+abbrev pub OffsetFound : (c : ℕ) → Bytes → CodeOption ℕ → Type 0
+OffsetFound c l (Some i) = (i < length l) × (i ≡ length (before c l))
+OffsetFound c l None = length (before c l) ≡ length l
 
 -- ---- a name among the sections in the buffers
 
@@ -32,10 +39,10 @@ first_named x text (suc k) [] = 0
 first_named x text (suc k) (a ∷ []) = 0
 first_named x text (suc k) (a ∷ n ∷ ns) = cond (is_named x text a n) 0 (suc (first_named x text k ns))
 
--- an index below their number is that of a pair whose part is the name, and any other says that no pair is
-pub record SectionFound (name text : Bytes) (count : ℕ) (numbers : List ℕ) (index : ℕ) : Type 0 where
-  pub known : index < count → is_named name text (slice_index numbers (2 * index)) (slice_index numbers (2 * index + 1)) ≡ true
-  pub new : count ≤ index → first_named name text count numbers ≡ count
+-- the index of a pair whose part is the name, or none where no pair's is
+abbrev pub SectionFound : (name text : Bytes) (count : ℕ) (numbers : List ℕ) → CodeOption ℕ → Type 0
+SectionFound x text n ns (Some i) = (i < n) × (is_named x text (slice_index ns (2 * i)) (slice_index ns (2 * i + 1)) ≡ true)
+SectionFound x text n ns None = first_named x text n ns ≡ n
 
 -- ---- the state of a table
 

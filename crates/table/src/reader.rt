@@ -6,6 +6,7 @@ ghost use Rattle.table.specs.Answers.{ReadLeaves, Reads};
 ghost use Rattle.table.specs.Steps.{ReadsLine, ReadInto};
 
 use crate::error::Error;
+use crate::order::Order;
 use crate::state::{Counts, State};
 use crate::steps::add_line;
 use lines::{Check, Cursor, Next};
@@ -16,9 +17,6 @@ const TEXT_BYTES: usize = 65535;
 const SECTION_NUMBERS: usize = 128;
 
 const ENTRY_NUMBERS: usize = 2560;
-
-// The order of the sections has two numbers for each.
-const ORDER_NUMBERS: usize = 128;
 
 // Where reading goes on, and what the table has.
 #[derive(Clone, Copy)]
@@ -35,9 +33,9 @@ fn read_line(
     text: &mut [u8],
     sections: &mut [usize],
     entries: &mut [usize],
-    order: &mut [usize],
+    order: &mut Order,
 ) -> Result<Option<Progress>, Error>
-    requires { (4096 ≤ length line.old) × (progress.state.text ≤ progress.cursor.offset) × (length file.now ≤ length text.old) × (progress.state.sections ≤ 64) × (128 ≤ length sections.old) × (2560 ≤ length entries.old) × (128 ≤ length order.old) }
+    requires { (4096 ≤ length line.old) × (progress.state.text ≤ progress.cursor.offset) × (length file.now ≤ length text.old) × (progress.state.sections ≤ 64) × (128 ≤ length sections.old) × (2560 ≤ length entries.old) }
     ensures { ReadsLine file.now progress text.old sections.old entries.old result text.new sections.new entries.new }
 {
     match lines::next_line(file, progress.cursor, line) {
@@ -47,7 +45,7 @@ fn read_line(
             next,
         } => {
             let state = add_line(
-                &line[0..length],
+                &line[..length],
                 first,
                 progress.state,
                 text,
@@ -76,7 +74,7 @@ fn read_lines(
     ensures { ReadInto (run empty_table (logical file.now)) text.old sections.old entries.old result text.new sections.new entries.new }
 {
     let mut line = [0u8; 4096];
-    let mut order = [0usize; ORDER_NUMBERS];
+    let mut order = Order::new();
     let mut progress = Progress {
         cursor: Cursor::first(),
         state: State::new(),
@@ -103,9 +101,9 @@ fn read_apart(
     let mut section_numbers = [0usize; SECTION_NUMBERS];
     let mut entry_numbers = [0usize; ENTRY_NUMBERS];
     let counts = read_lines(file, &mut bytes, &mut section_numbers, &mut entry_numbers)?;
-    lines::copy_into(&bytes[0..counts.text], text, 0);
-    lines::copy_numbers_into(&section_numbers[0..2 * counts.sections], sections, 0);
-    lines::copy_numbers_into(&entry_numbers[0..5 * counts.entries], entries, 0);
+    lines::copy_into(&bytes[..counts.text], text, 0);
+    lines::copy_numbers_into(&section_numbers[..2 * counts.sections], sections, 0);
+    lines::copy_numbers_into(&entry_numbers[..5 * counts.entries], entries, 0);
     Ok(counts)
 }
 

@@ -6,7 +6,8 @@ ghost use Rattle.table.specs.LineKinds.{entry, header_kind, entry_kind, kind};
 ghost use Rattle.table.specs.Steps.{EntryPut, TakesHeader, TakesEntry, TakesLine};
 
 use crate::error::Error;
-use crate::kinds::{is_header, is_key, offset_of};
+use crate::kinds::{header_name, is_key, offset_of};
+use crate::order::Order;
 use crate::sections::open_section;
 use crate::state::State;
 
@@ -51,9 +52,8 @@ fn put_entry(
     put_record(entries, 5 * index, section, start, key.len(), value.len());
     State {
         text: middle + value.len(),
-        sections: state.sections,
         entries: index + 1,
-        current: state.current,
+        ..state
     }
 }
 
@@ -88,22 +88,15 @@ fn add_header_line(
     state: State,
     text: &mut [u8],
     sections: &mut [usize],
-    order: &mut [usize],
+    order: &mut Order,
 ) -> Result<State, Error>
-    requires { (state.text + length rest.now ≤ length text.old) × (state.sections ≤ 64) × (128 ≤ length sections.old) × (128 ≤ length order.old) }
+    requires { (state.text + length rest.now ≤ length text.old) × (state.sections ≤ 64) × (128 ≤ length sections.old) }
     ensures { TakesHeader (header_kind rest.now) number state text.old sections.old result text.new sections.new }
 {
-    if !is_header(rest) {
+    let Some(name) = header_name(rest) else {
         return Err(Error::BadHeader(number));
-    }
-    open_section(
-        &rest[0..rest.len() - 1],
-        number,
-        state,
-        text,
-        sections,
-        order,
-    )
+    };
+    open_section(name, number, state, text, sections, order)
 }
 
 // A trimmed line that starts with another byte.
@@ -117,11 +110,10 @@ fn add_entry_line(
     requires { (state.text + length line.now ≤ length text.old) × (2560 ≤ length entries.old) }
     ensures { TakesEntry (entry_kind line.now) number state text.old entries.old result text.new entries.new }
 {
-    let at = offset_of(b'=', line);
-    if line.len() <= at {
+    let Some(at) = offset_of(b'=', line) else {
         return Err(Error::NoEqualsSign(number));
-    }
-    let key = lines::trim_end(&line[0..at]);
+    };
+    let key = lines::trim_end(&line[..at]);
     let value = lines::trim_start(&line[at + 1..]);
     if !is_key(key) {
         return Err(Error::BadKey(number));
@@ -137,9 +129,9 @@ pub(crate) fn add_line(
     text: &mut [u8],
     sections: &mut [usize],
     entries: &mut [usize],
-    order: &mut [usize],
+    order: &mut Order,
 ) -> Result<State, Error>
-    requires { (state.text + length line.now ≤ length text.old) × (state.sections ≤ 64) × (128 ≤ length sections.old) × (2560 ≤ length entries.old) × (128 ≤ length order.old) }
+    requires { (state.text + length line.now ≤ length text.old) × (state.sections ≤ 64) × (128 ≤ length sections.old) × (2560 ≤ length entries.old) }
     ensures { TakesLine (kind (trimmed line.now)) number state text.old sections.old entries.old result text.new sections.new entries.new }
 {
     let trimmed = lines::trim(line);

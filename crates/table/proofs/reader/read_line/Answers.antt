@@ -16,7 +16,7 @@ add_line-requires c = let a = c.args in
     let b = c.next_line.new.buffer in
     let h = found_known a.file.now a.progress.cursor a.line.now b c.next_line.result c.next_line.ensures c.in-Found.length c.in-Found.first c.in-Found.next c.in-Found.is in
     let k = part-fits _ _ _ _ _ _ _ h a.progress.state.text (length a.text.now) c.requires.1 c.requires.2 in
-    (k, c.requires.3, c.requires.4, c.requires.5, c.requires.6)
+    (k, c.requires.3, c.requires.4, c.requires.5)
 
 pub returns-in_ok-state-in-Found : goal.returns-in_ok-state-in-Found
 returns-in_ok-state-in-Found c = let a = c.args in

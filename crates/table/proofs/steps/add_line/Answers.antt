@@ -16,7 +16,7 @@ pub add_header_line-requires : goal.add_header_line-requires
 add_header_line-requires c = let a = c.args in
     let m = c.trim-trimmed.result.now in
     let l = trimmed a.line.now in
-    (rest_fits m a.line.now a.state.text (length a.text.now) c.trim-trimmed.ensures c.requires.0, c.requires.1, c.requires.2, c.requires.4)
+    (rest_fits m a.line.now a.state.text (length a.text.now) c.trim-trimmed.ensures c.requires.0, c.requires.1, c.requires.2)
 
 pub returns-then-trimmed-eq91 : goal.returns-then-trimmed-eq91
 returns-then-trimmed-eq91 c = let a = c.args in
