@@ -4,6 +4,7 @@ ghost use Rattle.lines.specs.Utf8.{range, tail, longest_start};
 ghost use Rattle.lines.specs.CharSteps.{in_at, length_by, long_length, char_length};
 
 use crate::bytes::is_between;
+use std::str;
 
 // The byte at `at` is there, and from `low` to `high`.
 fn in_range(text: &[u8], at: usize, low: u8, high: u8) -> bool
@@ -96,13 +97,8 @@ fn char_length(text: &[u8]) -> usize
 pub fn well_formed_length(text: &[u8]) -> usize
     ensures { result ≡ longest_start text.now }
 {
-    let mut i = 0;
-    while i < text.len() {
-        let n = char_length(&text[i..]);
-        if n == 0 {
-            return i;
-        }
-        i += n;
+    match str::from_utf8(text) {
+        Ok(_) => text.len(),
+        Err(e) => e.valid_up_to(),
     }
-    i
 }
