@@ -4,7 +4,7 @@ ghost use Rattle.lines.specs.Bytes.{equal};
 ghost use Rattle.lookup.specs.Decoding.{part, lent_of, table_in};
 ghost use Rattle.lookup.specs.Questions.{index_in};
 ghost use Rattle.lookup.specs.Answers.{find_means};
-ghost use Rattle.lookup.specs.Steps.{there, matches_at, matches, EntryInside, IsFirst, IsLast, IsAsked};
+ghost use Rattle.lookup.specs.Steps.{there, matches_at, matches, EntryInside, IsAsked};
 
 use crate::error::Error;
 use crate::lent::Lent;
@@ -50,32 +50,16 @@ impl Lent<'_> {
         self.is_record(section, key, 5 * index)
     }
 
-    // The index of the first such entry of a table, if there is one.
-    fn first_entry(self, section: &[u8], key: &[u8]) -> Option<usize>
-        requires { there (table_in (lent_of self)) ≡ true }
-        ensures { IsFirst self.entry.entry_count (matches (lent_of self.entry) section.now key.now) result }
-    {
-        (0..self.entry_count).find(|index| self.is_entry(section, key, *index))
-    }
-
-    // Of the last.
-    fn last_entry(self, section: &[u8], key: &[u8]) -> Option<usize>
-        requires { there (table_in (lent_of self)) ≡ true }
-        ensures { IsLast self.entry.entry_count (matches (lent_of self.entry) section.now key.now) result }
-    {
-        (0..self.entry_count)
-            .rev()
-            .find(|index| self.is_entry(section, key, *index))
-    }
-
-    // Of the first or the last, as asked.
+    // The index of the first or the last such entry of a table, as asked, if there is one.
     fn find_entry(self, section: &[u8], key: &[u8], which: Which) -> Option<usize>
         requires { there (table_in (lent_of self)) ≡ true }
         ensures { IsAsked which self.entry.entry_count (matches (lent_of self.entry) section.now key.now) result }
     {
+        let mut indexes = 0..self.entry_count;
+        let is_one = |index: &usize| self.is_entry(section, key, *index);
         match which {
-            Which::First => self.first_entry(section, key),
-            Which::Last => self.last_entry(section, key),
+            Which::First => indexes.find(is_one),
+            Which::Last => indexes.rev().find(is_one),
         }
     }
 
