@@ -1,10 +1,10 @@
 // An entry of a file: the file is read, the entry looked up, its value asked for.
 ghost use Rattle.std.specs.Prelude.{◌≤◌, length};
-ghost use Rattle.lookup.specs.Decoding.{lent};
+ghost use Rattle.lookup.specs.Decoding.{lent_of};
 ghost use Rattle.claims.specs.LookUps.{Gets};
 ghost use Rattle.claims.specs.Steps.{Asks};
 
-use lookup::{FindAnswer, Which};
+use lookup::{Lent, Which};
 use table::ReadAnswer;
 
 #[derive(Clone, Copy)]
@@ -17,38 +17,25 @@ pub enum LookUpAnswer {
 
 // Looks an entry up in a table, and puts its value at the front of `out`.
 fn find_then_value(
+    lent: Lent,
     section: &[u8],
     key: &[u8],
     which: Which,
-    text: &[u8],
-    sections: &[usize],
-    section_count: usize,
-    entries: &[usize],
-    entry_count: usize,
     out: &mut [u8],
 ) -> LookUpAnswer
-    requires { length text.now ≤ length out.old }
-    ensures { Asks (lent text.now sections.now section_count entries.now entry_count) which section.now key.now out.old result out.new }
+    requires { length lent.text.now ≤ length out.old }
+    ensures { Asks (lent_of lent.entry) which section.now key.now out.old result out.new }
 {
-    match lookup::find(
-        section,
-        key,
-        which,
-        text,
-        sections,
-        section_count,
-        entries,
-        entry_count,
-    ) {
-        FindAnswer::Found(index) => {
-            let value = lookup::value(index, text, sections, section_count, entries, entry_count);
+    match lent.find(section, key, which) {
+        Ok(index) => {
+            let value = lent.value(index);
             lines::copy_into(value, out, 0);
             LookUpAnswer::Found {
                 index,
                 length: value.len(),
             }
         }
-        FindAnswer::Refused(e) => LookUpAnswer::NotFound(e),
+        Err(e) => LookUpAnswer::NotFound(e),
     }
 }
 
@@ -75,7 +62,16 @@ pub fn read_then_find(
             text: _,
             sections: s,
             entries: k,
-        } => find_then_value(section, key, which, &text, &sections, s, &entries, k, out),
+        } => {
+            let lent = Lent {
+                text: &text,
+                sections: &sections,
+                section_count: s,
+                entries: &entries,
+                entry_count: k,
+            };
+            find_then_value(lent, section, key, which, out)
+        }
         ReadAnswer::Refused(e) => LookUpAnswer::NotRead(e),
     }
 }

@@ -3,7 +3,7 @@
 #![tactic(auto)]
 
 use listing::{print, print_refused, show};
-use lookup::{FindAnswer, Which};
+use lookup::{Lent, Which};
 use std::env::{Env, FillError};
 use std::io;
 use table::ReadAnswer;
@@ -70,28 +70,28 @@ fn answer_from(
     match table::read(file, text, sections, entries) {
         ReadAnswer::Accepted {
             text: _,
-            sections: m,
-            entries: k,
-        } => print_value(rt, section, key, text, sections, m, entries, k),
+            sections: section_count,
+            entries: entry_count,
+        } => {
+            let lent = Lent {
+                text,
+                sections,
+                section_count,
+                entries,
+                entry_count,
+            };
+            print_value(rt, lent, section, key)
+        }
         ReadAnswer::Refused(e) => print_refused(rt, e.number(), e.place()),
     }
 }
 
-fn print_value(
-    rt: &impl Print,
-    section: &[u8],
-    key: &[u8],
-    text: &[u8],
-    sections: &[usize],
-    m: usize,
-    entries: &[usize],
-    k: usize,
-) -> io::Result<()> {
-    match lookup::find(section, key, Which::Last, text, sections, m, entries, k) {
-        FindAnswer::Found(index) => {
-            print(rt, lookup::value(index, text, sections, m, entries, k))?;
+fn print_value(rt: &impl Print, lent: Lent, section: &[u8], key: &[u8]) -> io::Result<()> {
+    match lent.find(section, key, Which::Last) {
+        Ok(index) => {
+            print(rt, lent.value(index))?;
             print(rt, b"\n")
         }
-        FindAnswer::Refused(e) => print_refused(rt, e.number(), e.place()),
+        Err(e) => print_refused(rt, e.number(), e.place()),
     }
 }

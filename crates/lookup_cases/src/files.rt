@@ -1,7 +1,7 @@
 // Questions to the table of a file.
 use crate::answers;
 use listing::{notation, print, print_refused, show};
-use lookup::Which;
+use lookup::{Lent, Which};
 use std::io;
 use table::ReadAnswer;
 
@@ -54,9 +54,21 @@ fn read_into(
     match table::read(file, text, sections, entries) {
         ReadAnswer::Accepted {
             text: _,
-            sections: m,
-            entries: k,
-        } => answers::find(rt, which, section, key, text, sections, m, entries, k, true),
+            sections: section_count,
+            entries: entry_count,
+        } => {
+            let lent = Lent {
+                text,
+                sections,
+                section_count,
+                entries,
+                entry_count,
+            };
+            answers::find(rt, lent, which, section, key, |rt, lent, index| {
+                print(rt, b", ")?;
+                answers::value(rt, lent, index)
+            })
+        }
         ReadAnswer::Refused(e) => {
             print(rt, b"not read, ")?;
             print_refused(rt, e.number(), e.place())
