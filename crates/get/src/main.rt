@@ -3,7 +3,7 @@
 #![tactic(auto)]
 
 use listing::{print, print_refused, show};
-use lookup::{FindAnswer, Which};
+use lookup::{Lent, Which};
 use std::env::{Env, FillError};
 use std::io;
 
@@ -67,35 +67,26 @@ fn answer_from(
     entries: &mut [usize],
 ) -> io::Result<()> {
     match table::read(file, text, sections, entries) {
-        Ok(counts) => print_value(
-            rt,
-            section,
-            key,
-            text,
-            sections,
-            counts.sections,
-            entries,
-            counts.entries,
-        ),
+        Ok(counts) => {
+            let lent = Lent {
+                text,
+                sections,
+                section_count: counts.sections,
+                entries,
+                entry_count: counts.entries,
+            };
+            print_value(rt, lent, section, key)
+        }
         Err(e) => print_refused(rt, e.number(), e.place()),
     }
 }
 
-fn print_value(
-    rt: &impl Print,
-    section: &[u8],
-    key: &[u8],
-    text: &[u8],
-    sections: &[usize],
-    m: usize,
-    entries: &[usize],
-    k: usize,
-) -> io::Result<()> {
-    match lookup::find(section, key, Which::Last, text, sections, m, entries, k) {
-        FindAnswer::Found(index) => {
-            print(rt, lookup::value(index, text, sections, m, entries, k))?;
+fn print_value(rt: &impl Print, lent: Lent, section: &[u8], key: &[u8]) -> io::Result<()> {
+    match lent.find(section, key, Which::Last) {
+        Ok(index) => {
+            print(rt, lent.value(index))?;
             print(rt, b"\n")
         }
-        FindAnswer::Refused(e) => print_refused(rt, e.number(), e.place()),
+        Err(e) => print_refused(rt, e.number(), e.place()),
     }
 }

@@ -2,6 +2,8 @@
 pub mod Walking
 -- what the records of a table say
 pub mod Decoded
+-- `find` over indexes from the back
+pub mod FromBack
 -- the first and the last entry that is asked for
 pub mod Searching
 -- the calls

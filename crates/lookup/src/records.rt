@@ -1,16 +1,15 @@
 // The records of sections and entries, and which are faulty.
 ghost use Rattle.std.specs.Prelude.{◌≡◌, ◌+◌, ◌≤◌, length};
-ghost use Rattle.lookup.specs.Decoding.{inside, names_in, entries_in, lent, table_in};
+ghost use Rattle.lookup.specs.Decoding.{inside, names_in, entries_in, lent_of, table_in};
 ghost use Rattle.lookup.specs.Steps.{there, good_entry};
 
+use crate::lent::Lent;
+
 // Whether a part is inside the text.
-pub(crate) fn is_inside(text: &[u8], start: usize, size: usize) -> bool
+fn is_inside(text: &[u8], start: usize, size: usize) -> bool
     ensures { result ≡ inside text.now start size }
 {
-    if text.len() < start {
-        return false;
-    }
-    size <= text.len() - start
+    start <= text.len() && size <= text.len() - start
 }
 
 // Whether so many records of sections are there, and none is faulty.
@@ -37,13 +36,9 @@ fn entry_good(text: &[u8], section_count: usize, entries: &[usize], at: usize) -
     requires { at + 5 ≤ length entries.now }
     ensures { result ≡ good_entry text.now section_count entries.now at }
 {
-    if section_count <= entries[at] {
-        return false;
-    }
-    if !is_inside(text, entries[at + 1], entries[at + 2]) {
-        return false;
-    }
-    is_inside(text, entries[at + 3], entries[at + 4])
+    entries[at] < section_count
+        && is_inside(text, entries[at + 1], entries[at + 2])
+        && is_inside(text, entries[at + 3], entries[at + 4])
 }
 
 // The same for entries as for sections.
@@ -65,18 +60,12 @@ fn entries_good(text: &[u8], section_count: usize, entries: &[usize], count: usi
     true
 }
 
-// Whether the buffers hold a table.
-pub(crate) fn holds_table(
-    text: &[u8],
-    sections: &[usize],
-    section_count: usize,
-    entries: &[usize],
-    entry_count: usize,
-) -> bool
-    ensures { result ≡ there (table_in (lent text.now sections.now section_count entries.now entry_count)) }
-{
-    if !sections_good(text, sections, section_count) {
-        return false;
+impl Lent<'_> {
+    // Whether the buffers hold a table.
+    pub(crate) fn holds_table(self) -> bool
+        ensures { result ≡ there (table_in (lent_of self.entry)) }
+    {
+        sections_good(self.text, self.sections, self.section_count)
+            && entries_good(self.text, self.section_count, self.entries, self.entry_count)
     }
-    entries_good(text, section_count, entries, entry_count)
 }

@@ -1,7 +1,7 @@
 // Questions to the table of a file.
 use crate::answers;
 use listing::{notation, print, print_refused, show};
-use lookup::Which;
+use lookup::{Lent, Which};
 use std::io;
 
 // The longest file.
@@ -51,18 +51,19 @@ fn read_into(
     entries: &mut [usize],
 ) -> io::Result<()> {
     match table::read(file, text, sections, entries) {
-        Ok(counts) => answers::find(
-            rt,
-            which,
-            section,
-            key,
-            text,
-            sections,
-            counts.sections,
-            entries,
-            counts.entries,
-            true,
-        ),
+        Ok(counts) => {
+            let lent = Lent {
+                text,
+                sections,
+                section_count: counts.sections,
+                entries,
+                entry_count: counts.entries,
+            };
+            answers::find(rt, lent, which, section, key, |rt, lent, index| {
+                print(rt, b", ")?;
+                answers::value(rt, lent, index)
+            })
+        }
         Err(e) => {
             print(rt, b"not read, ")?;
             print_refused(rt, e.number(), e.place())
