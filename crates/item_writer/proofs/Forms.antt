@@ -4,7 +4,7 @@ use Prim.Native.Nat.{ℕ, ◌/◌, ◌%◌, ◌≤◌}
 use Prim.Native.Char.{code}
 use native.Mathlib.Omega.{arith}
 use mathlib.Core.Bool.{true, false}
-use mathlib.Core.Option.{Option, none, some}
+use Rattle.std.specs.Prelude.{Option, None, Some}
 use mathlib.Core.List.{[], ◌∷◌, ◌++◌}
 use lib.ListN.{length}
 use borrow.Author.Tests.{eq-eqb, ne_eqb}
@@ -30,8 +30,8 @@ module _ (b c : ℕ) (e : letter_means c ≡ letter_of (control_letters ++ sign_
 
 spelled_length : (o : Option ℕ) (b : ℕ) → (1 ≤ length (byte_form o b)) × (length (byte_form o b) ≤ 4)
 unfolding byte_form
-spelled_length (some c) b = (omega arith, omega arith)
-spelled_length none b =
+spelled_length (Some c) b = (omega arith, omega arith)
+spelled_length None b =
     by_cases (between 0x20 0x7E b)
     (λ e. rw e (omega arith, omega arith))
     (λ e. rw e (omega arith, omega arith))

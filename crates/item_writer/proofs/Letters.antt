@@ -2,7 +2,7 @@
 use mathlib.Core.Path.{◌≡◌}
 use Prim.Native.Nat.{ℕ, ◌≤◌}
 use native.Mathlib.Omega.{arith}
-use mathlib.Core.Option.{none}
+use Rattle.std.specs.Prelude.{None}
 use mathlib.Core.List.{◌++◌}
 use lib.Dec.{leb}
 use mathlib.Core.Bool.{true}
@@ -19,7 +19,7 @@ unfolding letter_of
 from_controls b s q = rw (ne_eqb b 0x5C s, ne_eqb b 0x22 q)
 
 -- which is none for a byte from 20 to 7E
-pub above_controls : (b : ℕ) → between 0x20 0x7E b ≡ true → letter_of control_letters b ≡ none
+pub above_controls : (b : ℕ) → between 0x20 0x7E b ≡ true → letter_of control_letters b ≡ None
 unfolding letter_of
 above_controls b w =
     let low : 0x20 ≤ b = leb-true 0x20 b (and_left (leb 0x20 b) (leb b 0x7E) w) in
