@@ -2,15 +2,17 @@
 // cases that stand in standard input.
 #![tactic(auto)]
 
-mod cases;
+mod files;
 pub mod notation;
 pub mod show;
+mod stdin;
 pub mod tables;
 mod texts;
 
-pub use cases::{case, long_case, text_case};
+pub use files::{cases, long_case, text_cases};
 use lines::{Check, Cursor, Error, Next};
 use std::io;
+pub use stdin::{each_case, with_file};
 pub use texts::{lay_apart, print_run};
 
 pub fn print(rt: &impl Print, text: &[u8]) -> io::Result<()> {

@@ -54,18 +54,6 @@ pub fn each_line<F: FnMut(&[u8]) -> io::Result<()>>(text: &[u8], mut visit: F) -
     Ok(())
 }
 
-// Goes through the cases of standard input, one to a line. An input that is longer than the buffer is cut.
-pub fn each_case<F: FnMut(&[u8]) -> io::Result<()>>(
-    rt: &impl Input,
-    buffer: &mut [u8],
-    visit: F,
-) -> io::Result<()>
-    requires { F.IsAlwaysCallable visit }
-{
-    let length = input::read_full(&mut rt.reader(), buffer)?;
-    each_line(show::front(buffer, length), visit)
-}
-
 // ---- numbers
 
 #[derive(Clone, Copy)]

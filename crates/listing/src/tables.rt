@@ -1,8 +1,7 @@
 // Prints what a call left in the buffers of a table, or in one like them.
 use crate::show;
 use crate::show::Filler;
-use std::fmt;
-use std::io;
+use std::{fmt, io};
 
 // How much of the three buffers is used.
 #[derive(Clone, Copy)]

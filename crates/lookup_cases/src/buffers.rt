@@ -47,10 +47,9 @@ fn case(
     line: &[u8],
 ) -> io::Result<()> {
     let mut text = [0u8; TEXT];
-    let laid = notation::lay_bytes(line, &mut text);
-    if laid.taken == 0 {
+    let Some(laid) = notation::lay_bytes(line, &mut text) else {
         return show::bad_case(rt);
-    }
+    };
     let counts = notation::behind(line, laid.taken + 1);
     case_in(
         rt,
@@ -78,20 +77,21 @@ fn case_in(
     let k = notation::read_number(behind_m);
     let lists = notation::behind(behind_m, k.taken + 1);
     let colon = before_colon(lists);
-    let s = notation::lay_numbers(show::front(lists, colon), &mut sections);
-    let e = notation::lay_numbers(notation::behind(lists, colon + 1), &mut entries);
-    if SECTIONS < s || ENTRIES < e {
+    let Some(s) = notation::lay_numbers(show::front(lists, colon), &mut sections) else {
         return show::bad_case(rt);
-    }
+    };
+    let Some(e) = notation::lay_numbers(notation::behind(lists, colon + 1), &mut entries) else {
+        return show::bad_case(rt);
+    };
     ask(
         rt,
         question,
         section,
         key,
         text,
-        show::front_numbers(&sections, s),
+        show::front(&sections, s),
         m.value,
-        show::front_numbers(&entries, e),
+        show::front(&entries, e),
         k.value,
     )
 }
