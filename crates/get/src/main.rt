@@ -15,7 +15,9 @@ fn main(rt: HostRuntime) -> io::Result<()> {
     let k = argument(&rt, 2, &mut key);
     let more = argument(&rt, 3, &mut third);
     match (s, k, more) {
-        (Some(s), Some(k), None) => get(&rt, show::front(&section, s), show::front(&key, k)),
+        (Some(s), Some(k), None) => listing::with_file(&rt, "get", |file| {
+            answer(&rt, show::front(&section, s), show::front(&key, k), file)
+        }),
         _ => eprintln!(rt; "usage: get SECTION KEY < FILE"),
     }
 }
@@ -27,17 +29,6 @@ fn argument(rt: &impl Env, i: usize, buffer: &mut [u8]) -> Option<usize> {
         Ok(length) => Some(length),
         Err(FillError::TooLong) => Some(buffer.len()),
         Err(FillError::NotPresent) => None,
-    }
-}
-
-// Reads the file. One that is longer than the buffer is longer than any that is accepted. A read that fails is told on
-// standard error alone.
-fn get(rt: &(impl Input + Print + Eprint), section: &[u8], key: &[u8]) -> io::Result<()> {
-    let mut file = [0u8; 65536];
-    match input::read_input(&mut rt.reader(), &mut file) {
-        input::Input::Whole(length) => answer(rt, section, key, show::front(&file, length)),
-        input::Input::Longer => print_refused(rt, 2, 0),
-        input::Input::Failed(e) => eprintln!(rt; "get: standard input: {e}"),
     }
 }
 

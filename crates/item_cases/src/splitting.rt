@@ -9,17 +9,18 @@ pub(crate) fn case(rt: &impl Print, line: &[u8], buffer: &mut [u8]) -> io::Resul
     let rest = notation::behind(line, size.taken);
     let count = notation::read_number(notation::behind(rest, 1));
     let bracket = notation::behind(notation::behind(rest, count.taken), 2);
-    let text = notation::lay_bytes(bracket, buffer);
-    if text.taken == 0 || text.taken != bracket.len() {
-        show::bad_case(rt)
-    } else {
-        split(
-            rt,
-            show::front(buffer, text.length),
-            size.value,
-            count.value,
-        )
+    let Some(text) = notation::lay_bytes(bracket, buffer) else {
+        return show::bad_case(rt);
+    };
+    if text.taken != bracket.len() {
+        return show::bad_case(rt);
     }
+    split(
+        rt,
+        show::front(buffer, text.length),
+        size.value,
+        count.value,
+    )
 }
 
 fn split(rt: &impl Print, text: &[u8], size: usize, count: usize) -> io::Result<()> {
@@ -41,10 +42,7 @@ fn split_into(
         SplitAnswer::Accepted { count, length } => print_items(rt, bytes, length, ends, count),
         SplitAnswer::Refused(e) => {
             print(rt, b"all ")?;
-            show::print_kept(
-                rt,
-                show::bytes_kept(bytes, 0) && show::numbers_kept(ends, 0),
-            )?;
+            show::print_kept(rt, show::is_kept(bytes, 0) && show::is_kept(ends, 0))?;
             print_refused(rt, e.number(), e.place())
         }
     }
@@ -60,13 +58,13 @@ fn print_items(
     print(rt, b"rest ")?;
     show::print_kept(
         rt,
-        show::bytes_kept(bytes, length) && show::numbers_kept(ends, count),
+        show::is_kept(bytes, length) && show::is_kept(ends, count),
     )?;
     print_number(rt, count)?;
     print(rt, b" items, ")?;
     print_number(rt, length)?;
     print(rt, b" bytes: ")?;
-    show::print_numbers(rt, show::front_numbers(ends, count))?;
+    show::print_numbers(rt, show::front(ends, count))?;
     show::print_bytes(rt, show::front(bytes, length))?;
     print(rt, b"\n")
 }

@@ -8,35 +8,30 @@ use std::io;
 pub(crate) fn case(rt: &impl Print, line: &[u8], buffer: &mut [u8]) -> io::Result<()> {
     let size = notation::read_number(line);
     let rest = notation::behind(notation::behind(line, size.taken), 1);
-    let bytes = notation::lay_bytes(rest, buffer);
-    if bytes.taken == 0 {
-        show::bad_case(rt)
-    } else {
-        let numbers = notation::behind(rest, bytes.taken);
-        write(rt, show::front(buffer, bytes.length), numbers, size.value)
-    }
+    let Some(bytes) = notation::lay_bytes(rest, buffer) else {
+        return show::bad_case(rt);
+    };
+    let numbers = notation::behind(rest, bytes.taken);
+    write(rt, show::front(buffer, bytes.length), numbers, size.value)
 }
 
 fn write(rt: &impl Print, bytes: &[u8], numbers: &[u8], size: usize) -> io::Result<()> {
     let mut ends = [0usize; 300];
     let mut out = [show::BYTE; 5000];
-    let count = notation::lay_numbers(numbers, &mut ends);
-    if 5000 < size || 300 < count {
+    let Some(count) = notation::lay_numbers(numbers, &mut ends) else {
+        return show::bad_case(rt);
+    };
+    if 5000 < size {
         return show::bad_case(rt);
     }
-    write_into(
-        rt,
-        bytes,
-        show::front_numbers(&ends, count),
-        &mut out[0..size],
-    )
+    write_into(rt, bytes, show::front(&ends, count), &mut out[0..size])
 }
 
 fn write_into(rt: &impl Print, bytes: &[u8], ends: &[usize], out: &mut [u8]) -> io::Result<()> {
     match item_writer::write(bytes, ends, out) {
         WriteAnswer::Accepted { length } => {
             print(rt, b"rest ")?;
-            show::print_kept(rt, show::bytes_kept(out, length))?;
+            show::print_kept(rt, show::is_kept(out, length))?;
             print_number(rt, length)?;
             print(rt, b" bytes: ")?;
             let text = show::front(out, length);
@@ -45,7 +40,7 @@ fn write_into(rt: &impl Print, bytes: &[u8], ends: &[usize], out: &mut [u8]) -> 
         }
         WriteAnswer::Refused(e) => {
             print(rt, b"all ")?;
-            show::print_kept(rt, show::bytes_kept(out, 0))?;
+            show::print_kept(rt, show::is_kept(out, 0))?;
             print_refused(rt, e.number(), e.place())
         }
     }
@@ -71,7 +66,7 @@ fn are_same(
 ) -> bool {
     match items::split(text, found, found_ends) {
         SplitAnswer::Accepted { count, length } => {
-            same_numbers(show::front_numbers(found_ends, count), ends)
+            same_numbers(show::front(found_ends, count), ends)
                 && lines::same(show::front(found, length), show::front(bytes, last(ends)))
         }
         SplitAnswer::Refused(_) => false,

@@ -1,3 +1,2 @@
 -- Laws about the definitions of specs/.
 pub mod Laying
-pub mod Keeping

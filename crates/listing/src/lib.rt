@@ -2,15 +2,17 @@
 // cases that stand in standard input.
 #![tactic(auto)]
 
-mod cases;
+mod files;
 pub mod notation;
 pub mod show;
+mod stdin;
 pub mod tables;
 mod texts;
 
-pub use cases::{case, long_case, text_case};
+pub use files::{cases, long_case, text_cases};
 use lines::{Check, Cursor, Error, Next};
 use std::io;
+pub use stdin::{each_case, with_file};
 pub use texts::{lay_apart, print_run};
 
 pub fn print(rt: &impl Print, text: &[u8]) -> io::Result<()> {
@@ -22,33 +24,16 @@ pub fn print_u64(rt: &impl Print, n: u64) -> io::Result<()> {
 }
 
 pub fn print_number(rt: &impl Print, n: usize) -> io::Result<()> {
-    print_u64(rt, n as u64)
+    rt.print(n)
 }
 
 // The line `refused N at P`.
 pub fn print_refused(rt: &impl Print, number: usize, place: usize) -> io::Result<()> {
-    print(rt, b"refused ")?;
-    print_number(rt, number)?;
-    print(rt, b" at ")?;
-    print_number(rt, place)?;
-    print(rt, b"\n")
+    println!(rt; "refused {number} at {place}")
 }
 
 pub fn print_refusal(rt: &impl Print, e: Error) -> io::Result<()> {
     print_refused(rt, e.number(), e.place())
-}
-
-// A byte as two hex digits.
-fn print_hex(rt: &impl Print, byte: u8) -> io::Result<()> {
-    print!(rt; "{byte:02x}")
-}
-
-// The first bytes of a buffer, as many as asked where it has them.
-pub fn print_front(rt: &impl Print, buffer: &[u8], count: usize) -> io::Result<()> {
-    if count <= buffer.len() {
-        print(rt, &buffer[0..count])?;
-    }
-    Ok(())
 }
 
 // A line: its number, its length and its bytes, or the first 20 where it has more than `most`.
@@ -59,33 +44,25 @@ fn print_line(
     length: usize,
     most: usize,
 ) -> io::Result<()> {
-    print_number(rt, first)?;
-    print(rt, b" ")?;
-    print_number(rt, length)?;
-    print(rt, b":")?;
+    print!(rt; "{first} {length}:")?;
     if length <= most {
-        print_front(rt, buffer, length)?;
+        print(rt, show::front(buffer, length))?;
     } else {
-        print_front(rt, buffer, 20)?;
-        print(rt, b"..")?;
+        print(rt, show::front(buffer, 20))?;
+        print!(rt; "..")?;
     }
-    print(rt, b"\n")
+    print!(rt; "\n")
 }
 
-#[derive(Clone, Copy)]
-enum Step {
-    Go(Cursor),
-    Stop,
-}
-
-// Prints the next line or its refusal.
+// Prints the next line, and answers where to go on; nothing behind the last line and behind a refusal, which is
+// printed.
 fn list_line(
     rt: &impl Print,
     file: &[u8],
     cursor: Cursor,
     buffer: &mut [u8],
     most: usize,
-) -> io::Result<Step> {
+) -> io::Result<Option<Cursor>> {
     match lines::next_line(file, cursor, buffer) {
         Next::Found {
             length,
@@ -93,12 +70,12 @@ fn list_line(
             next,
         } => {
             print_line(rt, first, buffer, length, most)?;
-            Ok(Step::Go(next))
+            Ok(Some(next))
         }
-        Next::End => Ok(Step::Stop),
+        Next::End => Ok(None),
         Next::Refused(e) => {
             print_refusal(rt, e)?;
-            Ok(Step::Stop)
+            Ok(None)
         }
     }
 }
@@ -107,10 +84,10 @@ fn list_line(
 fn list_lines(rt: &impl Print, file: &[u8], buffer: &mut [u8], most: usize) -> io::Result<()> {
     let mut cursor = Cursor::first();
     for _ in 0..65536usize {
-        match list_line(rt, file, cursor, buffer, most)? {
-            Step::Go(next) => cursor = next,
-            Step::Stop => return Ok(()),
-        }
+        let Some(next) = list_line(rt, file, cursor, buffer, most)? else {
+            return Ok(());
+        };
+        cursor = next;
     }
     Ok(())
 }

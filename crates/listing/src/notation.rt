@@ -1,9 +1,10 @@
 // Reads the lines of cases, and what a line is made of: numbers, and bytes in square brackets.
-ghost use Rattle.std.specs.Prelude.{◌≡◌, ◌≤◌, ◌<◌, ◌-◌, ◌||◌, eqb, length, take, drop, get_or};
+ghost use Rattle.std.specs.Prelude.{◌≡◌, ◌+◌, ◌-◌, ◌≤◌, ◌<◌, ◌||◌, eqb, length, take, drop, get_or, IfSome};
 ghost use Rattle.lines.specs.Bytes.{is_lf};
 ghost use Rattle.lines.specs.LineSteps.{line_length};
 
 use crate::show;
+use std::io;
 
 // ---- lines and their parts
 
@@ -11,31 +12,21 @@ use crate::show;
 fn line_length(text: &[u8]) -> usize
     ensures { result ≡ line_length text.now }
 {
-    let mut i = 0;
-    while i < text.len() {
-        if text[i] == b'\n' {
-            return i;
-        }
-        i += 1;
-    }
-    i
+    text.iter().position(|b| *b == b'\n').unwrap_or(text.len())
 }
 
 // The byte at an index, 0 behind the end.
 pub fn byte_at(text: &[u8], i: usize) -> u8
     ensures { result ≡ get_or text.now i 0 }
 {
-    if i < text.len() { text[i] } else { 0 }
+    text.get(i).copied().unwrap_or(0)
 }
 
-// What stands behind the first `n` bytes.
-pub fn behind(text: &[u8], n: usize) -> &[u8]
-    ensures { result.now ≡ drop n text.now }
+// What stands behind the first `n` elements.
+pub fn behind<T>(list: &[T], n: usize) -> &[T]
+    ensures { result.now ≡ drop n list.now }
 {
-    if n <= text.len() {
-        return &text[n..];
-    }
-    &text[0..0]
+    list.get(n..).unwrap_or(&[])
 }
 
 // Whether a line starts at an index.
@@ -53,6 +44,16 @@ pub fn line_at(text: &[u8], at: usize) -> &[u8]
     show::front(rest, line_length(rest))
 }
 
+// Goes through the lines of a text. What stands behind its last LF is one where it is not empty.
+pub fn each_line<F: FnMut(&[u8]) -> io::Result<()>>(text: &[u8], mut visit: F) -> io::Result<()>
+    requires { F.IsAlwaysCallable visit }
+{
+    for at in (0..text.len()).filter(|at| starts_line(text, *at)) {
+        visit(line_at(text, at))?;
+    }
+    Ok(())
+}
+
 // ---- numbers
 
 #[derive(Clone, Copy)]
@@ -62,69 +63,66 @@ pub struct Number {
     pub taken: usize,
 }
 
-// What a hex digit stands for, 16 for any other byte.
-fn digit_value(b: u8) -> u8
-    ensures { result ≤ 16 }
+// What a hex digit stands for.
+fn digit_value(b: u8) -> Option<u8>
+    ensures { IfSome result (λ d. d < 16) }
 {
     match b {
-        b'0'..=b'9' => b - b'0',
-        b'a'..=b'f' => b - b'a' + 10,
-        _ => 16,
+        b'0'..=b'9' => Some(b - b'0'),
+        b'a'..=b'f' => Some(b - b'a' + 10),
+        _ => None,
     }
 }
 
 const LARGEST: usize = 18446744073709551615;
 
 // A number with one digit more. From 18446744073709551600 on all count as the largest.
-fn longer(value: usize, digit: u8) -> usize {
+fn longer(value: usize, digit: u8) -> usize
+    requires { digit < 10 }
+{
     if value < 1844674407370955160 {
-        if digit < 10 {
-            return value * 10 + digit as usize;
-        }
+        value * 10 + usize::from(digit)
+    } else {
+        LARGEST
     }
-    LARGEST
 }
 
-// The number that a text starts with.
+// The number that a text starts with, 0 where it starts with none.
 pub fn read_number(text: &[u8]) -> Number
     ensures { result.taken ≤ length text.now }
 {
     let mut value = 0;
     let mut taken = 0;
-    while taken < text.len() {
-        let digit = digit_value(text[taken]);
-        if 10 <= digit {
-            return Number { value, taken };
+    for b in text {
+        if !lines::is_digit(*b) {
+            break;
         }
-        value = longer(value, digit);
+        value = longer(value, *b - b'0');
         taken += 1;
     }
     Number { value, taken }
 }
 
-// Numbers up to the end of a line, each behind a space. Answers how many, or the largest number where the line makes
-// no sense or there are too many.
-pub fn lay_numbers(line: &[u8], numbers: &mut [usize]) -> usize {
-    let mut at = 0;
+// Numbers up to the end of a line, each behind a space. Answers how many; nothing where the line makes no sense or
+// there are too many.
+pub fn lay_numbers(line: &[u8], numbers: &mut [usize]) -> Option<usize> {
+    let mut rest = line;
     let mut count = 0;
-    while at < line.len() {
-        let n = read_number(&line[at + 1..]);
-        if line[at] != b' ' || n.taken == 0 {
-            return LARGEST;
+    while let Some((space, text)) = rest.split_first() {
+        let n = read_number(text);
+        if *space != b' ' || n.taken == 0 {
+            return None;
         }
-        if numbers.len() <= count {
-            return LARGEST;
-        }
-        numbers[count] = n.value;
+        *numbers.get_mut(count)? = n.value;
         count += 1;
-        at += 1 + n.taken;
+        rest = behind(text, n.taken);
     }
-    count
+    Some(count)
 }
 
 // ---- bytes
 
-// A byte that stands once or more often, and how many bytes of the line say so; none where they make no sense.
+// A byte that stands once or more often, and how many bytes of the line say so.
 #[derive(Clone, Copy)]
 struct Piece {
     byte: u8,
@@ -132,125 +130,74 @@ struct Piece {
     taken: usize,
 }
 
-fn no_piece() -> Piece
-    ensures { result.taken ≤ 0 }
-{
-    Piece {
-        byte: 0,
-        count: 0,
-        taken: 0,
-    }
-}
-
 // A byte as it is, or `<hh>`, or `<hh x COUNT>`.
-fn read_piece(text: &[u8]) -> Piece
-    requires { 0 < length text.now }
-    ensures { result.taken ≤ length text.now }
+fn read_piece(text: &[u8]) -> Option<Piece>
+    ensures { IfSome result (λ p. (0 < p.taken) × (p.taken ≤ length text.now)) }
 {
-    if text[0] != b'<' {
-        return Piece {
-            byte: text[0],
+    match text {
+        [b'<', high, low, rest @ ..] => {
+            let byte = digit_value(*high)? * 16 + digit_value(*low)?;
+            read_run(byte, rest)
+        }
+        [b'<', ..] | [] => None,
+        [byte, ..] => Some(Piece {
+            byte: *byte,
             count: 1,
             taken: 1,
-        };
+        }),
     }
-    if text.len() < 4 {
-        return no_piece();
-    }
-    let high = digit_value(text[1]);
-    let low = digit_value(text[2]);
-    if high < 16 {
-        if low < 16 {
-            return read_run(text, high * 16 + low);
-        }
-    }
-    no_piece()
 }
 
-// What stands behind `<hh`.
-fn read_run(text: &[u8], byte: u8) -> Piece
-    requires { 4 ≤ length text.now }
-    ensures { result.taken ≤ length text.now }
+// What stands behind `<hh`: `>`, or ` x COUNT>`.
+fn read_run(byte: u8, text: &[u8]) -> Option<Piece>
+    ensures { IfSome result (λ p. (0 < p.taken) × (p.taken ≤ 3 + length text.now)) }
 {
-    if text[3] == b'>' {
-        return Piece {
+    if byte_at(text, 0) == b'>' {
+        return Some(Piece {
             byte,
             count: 1,
             taken: 4,
-        };
+        });
     }
-    if text.len() < 6 {
-        return no_piece();
+    let n = read_number(text.strip_prefix(b" x ")?);
+    let end = 3 + n.taken;
+    if byte_at(text, end) != b'>' {
+        return None;
     }
-    if !lines::same(&text[3..6], b" x ") {
-        return no_piece();
-    }
-    let n = read_number(&text[6..]);
-    let end = 6 + n.taken;
-    if end < text.len() {
-        if text[end] == b'>' {
-            return Piece {
-                byte,
-                count: n.value,
-                taken: end + 1,
-            };
-        }
-    }
-    no_piece()
+    Some(Piece {
+        byte,
+        count: n.value,
+        taken: 3 + end + 1,
+    })
 }
 
 #[derive(Clone, Copy)]
 pub struct Laid {
     pub length: usize,
-    // How many bytes of the line it takes, 0 where they make no sense or the buffer is too small.
+    // How many bytes of the line it takes.
     pub taken: usize,
 }
 
-fn nothing() -> Laid
-    ensures { (result.length ≤ 0) × (result.taken ≤ 0) }
-{
-    Laid {
-        length: 0,
-        taken: 0,
-    }
-}
-
-// Lays bytes in square brackets into a buffer.
-pub fn lay_bytes(line: &[u8], buffer: &mut [u8]) -> Laid
-    ensures { (result.length ≤ length buffer.new) × (result.taken ≤ length line.now) }
+// Lays bytes in square brackets into a buffer. Answers nothing where they make no sense or the buffer is too small.
+pub fn lay_bytes(line: &[u8], buffer: &mut [u8]) -> Option<Laid>
+    ensures { IfSome result (λ l. (l.length ≤ length buffer.new) × (l.taken ≤ length line.now)) }
 {
     if byte_at(line, 0) != b'[' {
-        return nothing();
+        return None;
     }
-    let mut done = 0;
+    let mut length = 0;
     let mut at = 1;
-    while at < line.len() {
-        if line[at] == b']' {
-            return Laid {
-                length: done,
-                taken: at + 1,
-            };
-        }
-        let p = read_piece(&line[at..]);
-        if p.taken == 0 {
-            return nothing();
-        }
-        let count = p.count;
-        if buffer.len() - done < count {
-            return nothing();
-        }
-        let end = done + count;
-        fill(&mut buffer[done..end], p.byte);
-        done = end;
-        at += p.taken;
+    while byte_at(line, at) != b']' {
+        let piece = read_piece(behind(line, at))?;
+        buffer
+            .get_mut(length..)?
+            .get_mut(..piece.count)?
+            .fill(piece.byte);
+        length += piece.count;
+        at += piece.taken;
     }
-    nothing()
-}
-
-fn fill(part: &mut [u8], byte: u8) {
-    let mut i = 0;
-    while i < part.len() {
-        part[i] = byte;
-        i += 1;
-    }
+    Some(Laid {
+        length,
+        taken: at + 1,
+    })
 }

@@ -1,79 +1,78 @@
 // Prints what a call left in the buffers of a table, or in one like them.
-ghost use Rattle.std.specs.Prelude.{◌≤◌};
+use crate::show;
+use crate::show::Filler;
+use std::{fmt, io};
 
-use crate::{print, print_hex, print_number, show};
-use std::io;
+// How much of the three buffers is used.
+#[derive(Clone, Copy)]
+pub struct Counts {
+    pub text: usize,
+    pub sections: usize,
+    pub entries: usize,
+}
 
-pub fn print_counts(
+impl fmt::Display for Counts {
+    fn fmt<W: fmt::Write>(&self, f: &mut fmt::Formatter<W>) -> fmt::Result {
+        write!(
+            f,
+            "{} text bytes, {} sections, {} entries",
+            self.text, self.sections, self.entries
+        )
+    }
+}
+
+// The three buffers, as a call left them.
+#[derive(Clone, Copy)]
+pub struct Buffers<'a> {
+    pub text: &'a [u8],
+    pub sections: &'a [usize],
+    pub entries: &'a [usize],
+}
+
+impl Buffers<'_> {
+    // Whether they are as they were.
+    pub fn all_kept(self) -> bool {
+        show::is_kept(self.text, 0)
+            && show::is_kept(self.sections, 0)
+            && show::is_kept(self.entries, 0)
+    }
+
+    // A section takes two numbers, an entry five.
+    pub fn print(self, rt: &impl Print, counts: Counts) -> io::Result<()> {
+        print_part(rt, "text", self.text, counts.text)?;
+        print_part(
+            rt,
+            "sections",
+            self.sections,
+            counts.sections.saturating_mul(2),
+        )?;
+        print_part(
+            rt,
+            "entries",
+            self.entries,
+            counts.entries.saturating_mul(5),
+        )
+    }
+}
+
+// The used front of a buffer, what stands behind it, and whether the rest is as it was.
+pub fn print_part<T: Filler>(
     rt: &impl Print,
-    text: usize,
-    sections: usize,
-    entries: usize,
+    name: &str,
+    buffer: &[T],
+    used: usize,
 ) -> io::Result<()> {
-    print_number(rt, text)?;
-    print(rt, b" text bytes, ")?;
-    print_number(rt, sections)?;
-    print(rt, b" sections, ")?;
-    print_number(rt, entries)?;
-    print(rt, b" entries\n")
-}
-
-pub fn all_kept(text: &[u8], sections: &[usize], entries: &[usize]) -> bool {
-    show::bytes_kept(text, 0) && show::numbers_kept(sections, 0) && show::numbers_kept(entries, 0)
-}
-
-// The three buffers, with these counts.
-pub fn print_table(
-    rt: &impl Print,
-    text: &[u8],
-    t: usize,
-    sections: &[usize],
-    s: usize,
-    entries: &[usize],
-    e: usize,
-) -> io::Result<()> {
-    print_bytes(rt, b"  text ", text, t)?;
-    print_numbers(rt, b"  sections ", sections, 2 * at_most(s))?;
-    print_numbers(rt, b"  entries ", entries, 5 * at_most(e))
-}
-
-// A count, or 100000 where it is more: that is past every buffer here.
-fn at_most(count: usize) -> usize
-    ensures { result ≤ 100000 }
-{
-    if count < 100000 { count } else { 100000 }
-}
-
-// The used bytes, the byte behind them, and whether the rest is as it was.
-pub fn print_bytes(rt: &impl Print, name: &[u8], bytes: &[u8], used: usize) -> io::Result<()> {
-    print(rt, name)?;
-    show::print_bytes(rt, show::front(bytes, used))?;
-    print(rt, b" then ")?;
-    if used < bytes.len() {
-        print_hex(rt, bytes[used])?;
-    } else {
-        print(rt, b"none")?;
+    print!(rt; "  {name} ")?;
+    T::print_list(rt, show::front(buffer, used))?;
+    print!(rt; "then ")?;
+    match buffer.get(used) {
+        Some(next) => next.print_one(rt)?,
+        None => print!(rt; "none")?,
     }
-    print_rest(rt, show::bytes_kept(bytes, used))
-}
-
-// The same for numbers.
-fn print_numbers(rt: &impl Print, name: &[u8], numbers: &[usize], used: usize) -> io::Result<()> {
-    print(rt, name)?;
-    show::print_numbers(rt, show::front_numbers(numbers, used))?;
-    print(rt, b"then ")?;
-    if used < numbers.len() {
-        print_number(rt, numbers[used])?;
+    let rest = if show::is_kept(buffer, used) {
+        "kept"
     } else {
-        print(rt, b"none")?;
-    }
-    print_rest(rt, show::numbers_kept(numbers, used))
-}
-
-fn print_rest(rt: &impl Print, kept: bool) -> io::Result<()> {
-    if kept {
-        print(rt, b", rest kept\n")
-    } else {
-        print(rt, b", rest changed\n")
-    }
+        "changed"
+    };
+    println!(rt; ", rest {rest}")
 }

@@ -2,7 +2,7 @@
 ghost use Rattle.std.specs.Prelude.{◌≡◌, ◌+◌, ◌≤◌, length};
 ghost use Rattle.listing.specs.Texts.{length_in, laid_in};
 
-use crate::{print, print_hex, print_number};
+use crate::print;
 use std::io;
 
 // Shown as <head{byte x count}tail>, the byte in hex; a run of one byte as <head{byte}tail>.
@@ -13,17 +13,15 @@ pub fn print_run(
     count: usize,
     tail: &[u8],
 ) -> io::Result<()> {
-    print(rt, b"<")?;
+    print!(rt; "<")?;
     print(rt, head)?;
-    print(rt, b"{")?;
-    print_hex(rt, byte)?;
     if 1 < count {
-        print(rt, b" x ")?;
-        print_number(rt, count)?;
+        print!(rt; "{{{byte:02x} x {count}}}")?;
+    } else {
+        print!(rt; "{{{byte:02x}}}")?;
     }
-    print(rt, b"}")?;
     print(rt, tail)?;
-    print(rt, b">")
+    print!(rt; ">")
 }
 
 // Lays a head at the start of a buffer and a tail from an index on, and answers where the tail ends. Where they do

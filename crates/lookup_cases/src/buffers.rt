@@ -42,10 +42,9 @@ fn case<P: Print, F: Fn(&P, Lent) -> io::Result<()>>(
     requires { F.IsAlwaysCallable ask }
 {
     let mut text = [0u8; TEXT];
-    let laid = notation::lay_bytes(line, &mut text);
-    if laid.taken == 0 {
+    let Some(laid) = notation::lay_bytes(line, &mut text) else {
         return show::bad_case(rt);
-    }
+    };
     let counts = notation::behind(line, laid.taken + 1);
     case_in(rt, show::front(&text, laid.length), counts, ask)
 }
@@ -66,16 +65,17 @@ fn case_in<P: Print, F: Fn(&P, Lent) -> io::Result<()>>(
     let k = notation::read_number(behind_m);
     let lists = notation::behind(behind_m, k.taken + 1);
     let colon = before_colon(lists);
-    let s = notation::lay_numbers(show::front(lists, colon), &mut sections);
-    let e = notation::lay_numbers(notation::behind(lists, colon + 1), &mut entries);
-    if SECTIONS < s || ENTRIES < e {
+    let Some(s) = notation::lay_numbers(show::front(lists, colon), &mut sections) else {
         return show::bad_case(rt);
-    }
+    };
+    let Some(e) = notation::lay_numbers(notation::behind(lists, colon + 1), &mut entries) else {
+        return show::bad_case(rt);
+    };
     let lent = Lent {
         text,
-        sections: show::front_numbers(&sections, s),
+        sections: show::front(&sections, s),
         section_count: m.value,
-        entries: show::front_numbers(&entries, e),
+        entries: show::front(&entries, e),
         entry_count: k.value,
     };
     ask(rt, lent)

@@ -16,8 +16,10 @@ pub(crate) fn case(
     bracket: &[u8],
 ) -> io::Result<()> {
     let mut file = [0u8; FILE];
-    let laid = notation::lay_bytes(bracket, &mut file);
-    if laid.taken == 0 || laid.taken != bracket.len() {
+    let Some(laid) = notation::lay_bytes(bracket, &mut file) else {
+        return show::bad_case(rt);
+    };
+    if laid.taken != bracket.len() {
         return show::bad_case(rt);
     }
     read(rt, which, section, key, show::front(&file, laid.length))

@@ -19,18 +19,7 @@ use std::io;
 const NAME: usize = 65600;
 
 fn main(rt: HostRuntime) -> io::Result<()> {
-    let mut input = [0u8; 262144];
-    let got = input::read_full(&mut rt.reader(), &mut input)?;
-    cases(&rt, &input[..got])
-}
-
-fn cases(rt: &impl Print, input: &[u8]) -> io::Result<()> {
-    for at in 0..input.len() {
-        if notation::starts_line(input, at) {
-            case(rt, notation::line_at(input, at))?;
-        }
-    }
-    Ok(())
+    listing::each_case(&rt, &mut [0u8; 262144], |line| case(&rt, line))
 }
 
 fn case(rt: &impl Print, line: &[u8]) -> io::Result<()> {
@@ -63,13 +52,14 @@ fn case_of(rt: &impl Print, line: &[u8], which: Which) -> io::Result<()> {
     let mut section = [0u8; NAME];
     let mut key = [0u8; NAME];
     let names = notation::behind(line, start(which));
-    let s = notation::lay_bytes(names, &mut section);
-    let behind_section = notation::behind(names, s.taken + 1);
-    let k = notation::lay_bytes(behind_section, &mut key);
-    let rest = notation::behind(behind_section, k.taken + 1);
-    if s.taken == 0 || k.taken == 0 {
+    let Some(s) = notation::lay_bytes(names, &mut section) else {
         return show::bad_case(rt);
-    }
+    };
+    let behind_section = notation::behind(names, s.taken + 1);
+    let Some(k) = notation::lay_bytes(behind_section, &mut key) else {
+        return show::bad_case(rt);
+    };
+    let rest = notation::behind(behind_section, k.taken + 1);
     named_case(
         rt,
         line,

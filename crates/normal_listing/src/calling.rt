@@ -1,5 +1,6 @@
 // A call for the normal text.
-use listing::{print, print_number, print_refused, show, tables};
+use listing::tables::{Buffers, Counts};
+use listing::{print, print_refused, show, tables};
 use normal_text::NormalAnswer;
 use std::io;
 
@@ -10,15 +11,9 @@ const SECTIONS: usize = 140;
 
 const ENTRIES: usize = 2600;
 
-// Calls with buffers of these lengths.
-pub(crate) fn call(
-    rt: &impl Print,
-    file: &[u8],
-    t: usize,
-    s: usize,
-    e: usize,
-    o: usize,
-) -> io::Result<()> {
+// Calls with buffers of these lengths: for the text, the sections, the entries and the normal text.
+pub(crate) fn call(rt: &impl Print, file: &[u8], sizes: [usize; 4]) -> io::Result<()> {
+    let [t, s, e, o] = sizes;
     let mut text = [show::BYTE; BYTES];
     let mut sections = [show::NUMBER; SECTIONS];
     let mut entries = [show::NUMBER; ENTRIES];
@@ -36,7 +31,7 @@ pub(crate) fn call(
     )
 }
 
-// Calls, and prints what comes of it.
+// Calls, and prints the answer and what the buffers hold.
 fn call_with(
     rt: &impl Print,
     file: &[u8],
@@ -46,18 +41,11 @@ fn call_with(
     out: &mut [u8],
 ) -> io::Result<()> {
     let answer = normal_text::normal_text(file, text, sections, entries, out);
-    print_answer(rt, answer, text, sections, entries, out)
-}
-
-// The answer, and what the buffers hold.
-fn print_answer(
-    rt: &impl Print,
-    answer: NormalAnswer,
-    text: &[u8],
-    sections: &[usize],
-    entries: &[usize],
-    out: &[u8],
-) -> io::Result<()> {
+    let buffers = Buffers {
+        text,
+        sections,
+        entries,
+    };
     match answer {
         NormalAnswer::Accepted {
             length,
@@ -65,18 +53,18 @@ fn print_answer(
             sections: s,
             entries: e,
         } => {
-            print_number(rt, length)?;
-            print(rt, b" bytes, ")?;
-            tables::print_counts(rt, t, s, e)?;
-            tables::print_bytes(rt, b"  normal ", out, length)?;
-            tables::print_table(rt, text, t, sections, s, entries, e)
+            let counts = Counts {
+                text: t,
+                sections: s,
+                entries: e,
+            };
+            println!(rt; "{length} bytes, {counts}")?;
+            tables::print_part(rt, "normal", out, length)?;
+            buffers.print(rt, counts)
         }
         NormalAnswer::Refused(e) => {
             print(rt, b"all ")?;
-            show::print_kept(
-                rt,
-                show::bytes_kept(out, 0) && tables::all_kept(text, sections, entries),
-            )?;
+            show::print_kept(rt, show::is_kept(out, 0) && buffers.all_kept())?;
             print_refused(rt, e.number(), e.place())
         }
     }

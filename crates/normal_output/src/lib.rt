@@ -5,15 +5,9 @@ use listing::{print, print_refused, show};
 use normal_text::NormalAnswer;
 use std::io;
 
-// Writes the normal text to standard output, or `refused N at P`. A file that is longer than the buffer is longer than
-// any that is accepted. A read that fails is told on standard error alone.
+// Writes the normal text to standard output, or `refused N at P`.
 pub fn run(rt: &(impl Input + Print + Eprint)) -> io::Result<()> {
-    let mut file = [0u8; 65536];
-    match input::read_input(&mut rt.reader(), &mut file) {
-        input::Input::Whole(length) => write(rt, show::front(&file, length)),
-        input::Input::Longer => print_refused(rt, 2, 0),
-        input::Input::Failed(e) => eprintln!(rt; "normal: standard input: {e}"),
-    }
+    listing::with_file(rt, "normal", |file| write(rt, file))
 }
 
 fn write(rt: &impl Print, file: &[u8]) -> io::Result<()> {

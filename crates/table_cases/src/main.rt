@@ -11,19 +11,7 @@ use std::io;
 // The buffer takes the file of one case, a million and a few bytes at most.
 fn main(rt: HostRuntime) -> io::Result<()> {
     let mut buffer = [0u8; 1000064];
-    let mut input = [0u8; 262144];
-    let got = input::read_full(&mut rt.reader(), &mut input)?;
-    cases(&rt, &input[..got], &mut buffer)
-}
-
-// The array's length is in the type: a proof of it for so long a slice is too deep for the prover.
-fn cases(rt: &impl Print, input: &[u8], buffer: &mut [u8; 1000064]) -> io::Result<()> {
-    for at in 0..input.len() {
-        if notation::starts_line(input, at) {
-            case(rt, notation::line_at(input, at), buffer)?;
-        }
-    }
-    Ok(())
+    listing::each_case(&rt, &mut [0u8; 262144], |line| case(&rt, line, &mut buffer))
 }
 
 fn case(rt: &impl Print, line: &[u8], buffer: &mut [u8]) -> io::Result<()> {

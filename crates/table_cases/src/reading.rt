@@ -1,5 +1,6 @@
 // A file is read.
-use listing::{notation, print, print_refused, show, tables};
+use listing::tables::{Buffers, Counts};
+use listing::{notation, print, print_refused, show};
 use std::io;
 
 // The longest buffers.
@@ -25,8 +26,10 @@ pub(crate) fn case(rt: &impl Print, line: &[u8], buffer: &mut [u8]) -> io::Resul
     let behind_sections = notation::behind(behind_text, sections.taken + 1);
     let entries = notation::read_number(behind_sections);
     let bracket = notation::behind(behind_sections, entries.taken + 1);
-    let file = notation::lay_bytes(bracket, buffer);
-    if file.taken == 0 || file.taken != bracket.len() {
+    let Some(file) = notation::lay_bytes(bracket, buffer) else {
+        return show::bad_case(rt);
+    };
+    if file.taken != bracket.len() {
         return show::bad_case(rt);
     }
     let sizes = Sizes {
@@ -65,22 +68,25 @@ fn read_into(
     sections: &mut [usize],
     entries: &mut [usize],
 ) -> io::Result<()> {
-    match table::read(file, text, sections, entries) {
-        Ok(counts) => {
-            tables::print_counts(rt, counts.text, counts.sections, counts.entries)?;
-            tables::print_table(
-                rt,
-                text,
-                counts.text,
-                sections,
-                counts.sections,
-                entries,
-                counts.entries,
-            )
+    let answer = table::read(file, text, sections, entries);
+    let buffers = Buffers {
+        text,
+        sections,
+        entries,
+    };
+    match answer {
+        Ok(c) => {
+            let counts = Counts {
+                text: c.text,
+                sections: c.sections,
+                entries: c.entries,
+            };
+            println!(rt; "{counts}")?;
+            buffers.print(rt, counts)
         }
         Err(e) => {
             print(rt, b"all ")?;
-            show::print_kept(rt, tables::all_kept(text, sections, entries))?;
+            show::print_kept(rt, buffers.all_kept())?;
             print_refused(rt, e.number(), e.place())
         }
     }

@@ -1,11 +1,9 @@
--- `lay_bytes` ends: each piece takes a byte of the line or more. The buffer keeps its length.
-use mathlib.Core.Path.{◌≡◌}
-use Prim.Native.Nat.{◌-◌, ◌≤◌}
-use lib.ListN.{length}
+-- `lay_bytes` ends: each piece takes a byte of the line or more.
+use Rattle.std.proofs.Common.{length, ◌-◌, ◌≤◌}
 use Rattle.listing.proofs.notation.lay_bytes.Given as goal
 
-abbrev pub invariant-loop-at : goal.invariant-loop-at
-invariant-loop-at l = (l.done ≤ length l.initial.buffer) × (length l.buffer ≡ length l.initial.buffer)
+abbrev pub invariant-loop-length : goal.invariant-loop-length
+invariant-loop-length l = l.length ≤ length l.buffer
 
-abbrev pub decreases-loop-at : goal.decreases-loop-at
-decreases-loop-at l = length l.line - l.at
+abbrev pub decreases-loop-length : goal.decreases-loop-length
+decreases-loop-length l = length l.line - l.at

@@ -1,10 +1,6 @@
--- `read_number` takes no more than the text has.
-use Prim.Native.Nat.{◌-◌, ◌≤◌}
-use lib.ListN.{length}
+-- `read_number` takes no more than it has looked at.
+use Rattle.std.proofs.Common.{◌≤◌}
 use Rattle.listing.proofs.notation.read_number.Given as goal
 
-abbrev pub invariant-loop-taken : goal.invariant-loop-taken
-invariant-loop-taken l = l.taken ≤ length l.text
-
-abbrev pub decreases-loop-taken : goal.decreases-loop-taken
-decreases-loop-taken l = length l.text - l.taken
+abbrev pub invariant-loop-b : goal.invariant-loop-b
+invariant-loop-b l = l.taken ≤ l.b-index

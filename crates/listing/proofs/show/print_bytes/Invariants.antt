@@ -1,9 +1,0 @@
--- `print_bytes` ends: each run has a byte or more.
-use Rattle.std.proofs.Common.{length, ◌-◌, ◌≤◌}
-use Rattle.listing.proofs.show.print_bytes.Given as goal
-
-abbrev pub invariant-loop-at : goal.invariant-loop-at
-invariant-loop-at g l = l.at ≤ length l.text
-
-abbrev pub decreases-loop-at : goal.decreases-loop-at
-decreases-loop-at g l = length l.text - l.at
