@@ -9,6 +9,7 @@ pub mod Stores
 pub mod Slices
 pub mod Trimming
 pub mod LineFeeds
+pub mod Chains
 -- UTF-8 and the check of a file
 pub mod Utf8Laws
 pub mod Characters

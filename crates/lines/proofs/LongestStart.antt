@@ -8,6 +8,7 @@ use mathlib.Core.Bool.{true, false}
 use mathlib.Core.List.{[], ◌∷◌, ◌++◌, append-nil}
 use lib.ListN.{length, take, drop, length-append, take-append-drop, length-drop}
 use lib.Seq.{take-length, take-append-add, take-append_seam, take-add, length-take-le}
+use Rattle.lines.proofs.Bools.{by_cases}
 use Rattle.lines.specs.Bytes.{Bytes}
 use Rattle.lines.specs.Utf8.{well, utf8, start_within, longest_start}
 use Rattle.lines.specs.CharSteps.{char_length}
@@ -32,6 +33,19 @@ start_at (suc n) a b bs u c =
     let e : utf8 (take (length a + suc n) (a ++ b ∷ bs)) ≡ false =
     ap utf8 (take-append-add a (b ∷ bs) (suc n)) ∙ utf8_append a (take (suc n) (b ∷ bs)) u ∙ no_start n b bs c in
     rw add-suc (start_no (a ++ b ∷ bs) (length a + n) (rw add-suc at e) ∙ start_at n a b bs u c)
+
+start_legal_within : (n : ℕ) (f : Bytes) → utf8 (take (start_within n f) f) ≡ true
+unfolding start_within utf8 well
+start_legal_within zero f = refl
+start_legal_within (suc n) f =
+    by_cases (utf8 (take (suc n) f))
+    (λ e. ap (λ (k : ℕ). utf8 (take k f)) (start_yes f (suc n) e) ∙ e)
+    (λ e. ap (λ (k : ℕ). utf8 (take k f)) (start_no f n e) ∙ start_legal_within n f)
+
+-- it is well-formed
+pub start_legal : (f : Bytes) → utf8 (take (longest_start f) f) ≡ true
+unfolding longest_start
+start_legal f = start_legal_within (length f) f
 
 pub longest_start-all : (f : Bytes) → utf8 f ≡ true → longest_start f ≡ length f
 unfolding longest_start

@@ -1,6 +1,6 @@
 -- Steps of the passes over bytes. No public promise cites this file.
-use Rattle.std.specs.Prelude.{ℕ, suc, Bool, true, false, ◌&&◌, cond, List, [], ◌∷◌, length, get_or, drop, ltb, eqb}
-use Rattle.lines.specs.Bytes.{Bytes, control}
+use Rattle.std.specs.Prelude.{ℕ, suc, Bool, true, false, ◌&&◌, cond, List, [], ◌∷◌, length, get_or, drop, ltb}
+use Rattle.lines.specs.Bytes.{Bytes}
 use Rattle.lines.specs.Utf8.{Range, within, Row, row, rows}
 
 -- the byte at index i is there and in the range
@@ -33,9 +33,3 @@ long_length t = char_in (drop 1 rows) t
 unfoldable pub char_length : Bytes → ℕ
 unfolding char_in rows
 char_length t = char_in rows t
-
--- ---- the check of a file
-
--- the line of the first control byte, 0 while there is none
-abbrev pub control_after : ℕ → ℕ → ℕ → ℕ
-control_after found line b = cond (eqb found 0 && control b) line found
