@@ -12,7 +12,6 @@ pub mod LineFeeds
 pub mod Chains
 -- UTF-8 and the check of a file
 pub mod Utf8Laws
-pub mod Characters
 pub mod LongestStart
 pub mod Encoded
 pub mod StdUtf8
