@@ -94,6 +94,7 @@ fn char_length(text: &[u8]) -> usize
 }
 
 // The length of the longest well-formed start.
+#[tactic(auto, using(crate::proofs::StdUtf8::length_of_std, crate::proofs::StdUtf8::valid_len_of_std))]
 pub fn well_formed_length(text: &[u8]) -> usize
     ensures { result ≡ longest_start text.now }
 {
