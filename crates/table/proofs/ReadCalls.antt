@@ -5,12 +5,10 @@ use Rattle.lines.specs.Bytes.{Bytes}
 use Rattle.lines.specs.Lines.{logical}
 use Rattle.lines.specs.Answers.{Outcome, accepted, refused}
 use Rattle.lines.specs.Answers as file
-use Rattle.lines.specs.Files.{size, checked_file, check_means}
+use Rattle.lines.specs.Files.{size, checked_file}
 use Rattle.lines.specs.Buffers.{put}
 use Rattle.lines.specs.declared.error.Error.{Error as FileError}
 use Rattle.lines.specs.declared.error.Error.TheVariants.{ShortBuffer}
-use Rattle.lines.specs.declared.file.Check.{Check}
-use Rattle.lines.specs.declared.file.Check.TheVariants.{Accepted as CheckAccepted, Refused as CheckRefused}
 use Rattle.lines.proofs.Bools.{by_cases}
 use Rattle.lines.proofs.Buffers.{front_copied}
 use Rattle.lines.proofs.FileLaws.{size_over}
@@ -19,11 +17,11 @@ use Rattle.table.specs.Tables.{Table, empty_table, names, and_then, run, verdict
 use Rattle.table.specs.Tables as tables
 use Rattle.table.specs.Contents.{text_of, section_numbers, entry_numbers}
 use Rattle.table.specs.Answers.{number_of, place_of, error_means, counts_of, counted, text_after, sections_after, entries_after, TableLeft, ReadLeaves, read_in, Reads}
-use Rattle.table.specs.Steps.{AllRead, ReadInto}
+use Rattle.table.specs.Steps.{counts_in, AllRead}
+use Rattle.table.specs.declared.builder.Builder.{Builder}
 use Rattle.table.specs.declared.error.Error.{Error}
 use Rattle.table.specs.declared.error.Error.TheVariants.{File}
 use Rattle.table.specs.declared.state.Counts.{Counts}
-use Rattle.table.specs.declared.state.State.{State}
 use Rattle.table.proofs.Events.{sections_length, entries-length}
 
 -- ---- a refusal leaves the lent buffers as they were
@@ -34,7 +32,7 @@ table_kept o n p e text sections entries =
     subst (λ (x : Outcome Table). TableLeft x text sections entries text sections entries) (sym e)
     (record { new_text = refl; new_sections = refl; new_entries = refl })
 
-leaves_refused : (o : Outcome Table) (k : Error) → o ≡ error_means k → (text : Bytes) (sections entries : List ℕ)
+pub leaves_refused : (o : Outcome Table) (k : Error) → o ≡ error_means k → (text : Bytes) (sections entries : List ℕ)
     → ReadLeaves o text sections entries (Err k) text sections entries
 leaves_refused o k f text sections entries =
     record {
@@ -44,28 +42,19 @@ leaves_refused o k f text sections entries =
 
 -- ---- by way of buffers of its own
 
-module _ (o : Outcome Table) (d text : Bytes) (e sections g entries : List ℕ) (r : Result Counts Error) (h : ReadInto o d e g r text sections entries) where
-  pub all_known : (c : Counts) → r ≡ Ok c → AllRead o d text e sections g entries c
-  all_known c q = subst (λ (z : Result Counts Error). ReadInto o d e g z text sections entries) q h
+module _ (o : Outcome Table) (d : Bytes) (e g : List ℕ) (m : Builder) (h : AllRead o d e g m) (k : Counts) (q : k ≡ counts_in m.state) where
+  -- the counts are those of the table
+  counts_are : counts_of h.table ≡ k
+  counts_are = sym (q ∙ ap counts_in h.holds.state)
 
-  pub apart_refused : (k : Error) → r ≡ Err k → (text' : Bytes) (sections' entries' : List ℕ)
-      → ReadLeaves o text' sections' entries' (Err k) text' sections' entries'
-  apart_refused k q text' sections' entries' =
-      leaves_refused o k (subst (λ (z : Result Counts Error). ReadInto o d e g z text sections entries) q h) text' sections' entries'
-
-module _ (o : Outcome Table) (d text : Bytes) (e sections g entries : List ℕ) (k : Counts) (h : AllRead o d text e sections g entries k) where
   text_count : k.text ≡ length (text_of h.table.events)
-  text_count = ap (λ (z : Counts). z.text) h.counts ∙ ap (λ (z : State). z.text) h.holds.state
+  text_count = ap (λ (z : Counts). z.text) (sym counts_are)
 
   section_count_lem : k.sections ≡ length (names h.table.events)
-  section_count_lem = ap (λ (z : Counts). z.sections) h.counts ∙ ap (λ (z : State). z.sections) h.holds.state
+  section_count_lem = ap (λ (z : Counts). z.sections) (sym counts_are)
 
   entry_count_lem : k.entries ≡ length (tables.entries h.table.events)
-  entry_count_lem = ap (λ (z : Counts). z.entries) h.counts ∙ ap (λ (z : State). z.entries) h.holds.state
-
-  -- they are those of the table
-  counts_are : counts_of h.table ≡ k
-  counts_are = cc
+  entry_count_lem = ap (λ (z : Counts). z.entries) (sym counts_are)
 
   -- what is copied fits
   pub counts_fit : (k.text ≤ 65535) × (2 * k.sections ≤ 128) × (5 * k.entries ≤ 2560)
@@ -74,9 +63,9 @@ module _ (o : Outcome Table) (d text : Bytes) (e sections g entries : List ℕ) 
 
   -- what was read is copied
   pub apart_copied : (a a' : Bytes) (b b' c c' : List ℕ) → 65535 ≤ length a → 128 ≤ length b → 2560 ≤ length c
-      → a' ≡ cond (leb (0 + length (take k.text text)) (length a)) (put a 0 (take k.text text)) a
-      → b' ≡ cond (leb (0 + length (take (2 * k.sections) sections)) (length b)) (put b 0 (take (2 * k.sections) sections)) b
-      → c' ≡ cond (leb (0 + length (take (5 * k.entries) entries)) (length c)) (put c 0 (take (5 * k.entries) entries)) c
+      → a' ≡ cond (leb (0 + length (take k.text m.text)) (length a)) (put a 0 (take k.text m.text)) a
+      → b' ≡ cond (leb (0 + length (take (2 * k.sections) m.sections)) (length b)) (put b 0 (take (2 * k.sections) m.sections)) b
+      → c' ≡ cond (leb (0 + length (take (5 * k.entries) m.entries)) (length c)) (put c 0 (take (5 * k.entries) m.entries)) c
       → ReadLeaves o a b c (Ok k) a' b' c'
   apart_copied a a' b b' c c' la lb lc pa pb pc =
       let u : k.text - 0 ≡ k.text = omega arith in
@@ -88,13 +77,13 @@ module _ (o : Outcome Table) (d text : Bytes) (e sections g entries : List ℕ) 
         answer = sym (ap counted h.outcome ∙ ap accepted counts_are);
         left = record {
           new_text =
-              front_copied (text_of h.table.events) d text a a' k.text h.holds.text_is text_count (omega (arith, counts_fit.0)) (rw u pa)
+              front_copied (text_of h.table.events) d m.text a a' k.text h.holds.text_is text_count (omega (arith, counts_fit.0)) (rw u pa)
               ∙ sym (ap (λ (z : Outcome Table). text_after z a) h.outcome);
           new_sections =
-              front_copied (section_numbers h.table.events) e sections b b' (2 * k.sections) h.holds.sections_are x (omega (arith, counts_fit.1)) (rw v pb)
+              front_copied (section_numbers h.table.events) e m.sections b b' (2 * k.sections) h.holds.sections_are x (omega (arith, counts_fit.1)) (rw v pb)
               ∙ sym (ap (λ (z : Outcome Table). sections_after z b) h.outcome);
           new_entries =
-              front_copied (entry_numbers h.table.events) g entries c c' (5 * k.entries) h.holds.entries_are y (omega (arith, counts_fit.2)) (rw w pc)
+              front_copied (entry_numbers h.table.events) g m.entries c c' (5 * k.entries) h.holds.entries_are y (omega (arith, counts_fit.2)) (rw w pc)
               ∙ sym (ap (λ (z : Outcome Table). entries_after z c) h.outcome);
         };
       }
@@ -102,9 +91,9 @@ module _ (o : Outcome Table) (d text : Bytes) (e sections g entries : List ℕ) 
 -- ---- the whole file
 
 -- a file that is accepted before its lines are read is short
-pub checked_short : (f : Bytes) (c : Check) → check_means c ≡ checked_file f → c ≡ CheckAccepted → length f ≤ 65535
-checked_short f c h q =
-    let s = checked_is_sound f (sym h ∙ ap check_means q) in
+pub checked_short : (f : Bytes) → accepted tt ≡ checked_file f → length f ≤ 65535
+checked_short f h =
+    let s = checked_is_sound f (sym h) in
     by_cases (ltb 65535 (length f))
     (λ e. let l = ltb-true 65535 (size f) (size_over 65535 f (ltb-true 65535 (length f) e)) in absurd (omega (arith, l, s.short)))
     (λ e. omega (arith, ltb-false 65535 (length f) e))
@@ -137,18 +126,14 @@ module _ (f text : Bytes) (sections entries : List ℕ) where
         enough : read_in (length text) (length sections) (length entries) f ≡ verdict f
         enough = enough_space (length text) (length sections) (length entries) f ht hs he
 
-        module _ (c : Check) (m : check_means c ≡ checked_file f) where
-          pub file_refused : (k : FileError) → c ≡ CheckRefused k → Reads f text sections entries (Err (File k)) text sections entries
-          unfolding verdict and_then
-          file_refused k q =
-              let e : checked_file f ≡ refused (file.number_of k) (file.place_of k) = sym m ∙ ap check_means q in
-              leaves_refused _ (File k) (enough ∙ rw e) text sections entries
+        pub file_refused : (k : FileError) → file.error_means k ≡ checked_file f → Reads f text sections entries (Err (File k)) text sections entries
+        unfolding verdict and_then
+        file_refused k m = leaves_refused _ (File k) (enough ∙ rw (← m)) text sections entries
 
-          pub file_read : c ≡ CheckAccepted → (r : Result Counts Error) (text' : Bytes) (sections' entries' : List ℕ)
-              → ReadLeaves (run empty_table (logical f)) text sections entries r text' sections' entries'
-              → Reads f text sections entries r text' sections' entries'
-          unfolding verdict and_then
-          file_read q r text' sections' entries' h =
-              let e : checked_file f ≡ accepted tt = sym m ∙ ap check_means q in
-              let v : read_in (length text) (length sections) (length entries) f ≡ run empty_table (logical f) = enough ∙ rw e in
-              subst (λ (z : Outcome Table). ReadLeaves z text sections entries r text' sections' entries') (sym v) h
+        pub file_read : accepted tt ≡ checked_file f → (r : Result Counts Error) (text' : Bytes) (sections' entries' : List ℕ)
+            → ReadLeaves (run empty_table (logical f)) text sections entries r text' sections' entries'
+            → Reads f text sections entries r text' sections' entries'
+        unfolding verdict and_then
+        file_read m r text' sections' entries' h =
+            let v : read_in (length text) (length sections) (length entries) f ≡ run empty_table (logical f) = enough ∙ rw (← m) in
+            subst (λ (z : Outcome Table). ReadLeaves z text sections entries r text' sections' entries') (sym v) h

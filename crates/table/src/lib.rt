@@ -1,6 +1,7 @@
 // The table of a settings file: sections and entries, from the file's bytes.
 #![tactic(auto)]
 
+mod builder;
 mod error;
 mod kinds;
 mod order;

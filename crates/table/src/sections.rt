@@ -1,10 +1,10 @@
 // The sections that a table has so far.
-ghost use Rattle.std.specs.Prelude.{◌≡◌, ◌+◌, ◌*◌, ◌<◌, ◌≤◌, length};
+ghost use Rattle.std.specs.Prelude.{◌≡◌, ◌+◌, ◌<◌, ◌≤◌, length};
 ghost use Rattle.table.specs.LineKinds.{header};
-ghost use Rattle.table.specs.Steps.{is_named, SectionFound, SectionPut, TakesHeader};
+ghost use Rattle.table.specs.Steps.{is_named, section_named, SectionFound, SectionPut, TakesLine};
 
+use crate::builder::Builder;
 use crate::error::Error;
-use crate::order::Order;
 use crate::state::State;
 
 // Whether a part of the text is this name. One that is not inside the text is no name.
@@ -16,79 +16,76 @@ fn is_named(name: &[u8], text: &[u8], start: usize, length: usize) -> bool
         && lines::same(name, &text[start..start + length])
 }
 
-// The index of a section with this name. All of them are looked at, one after another.
-fn search_sections(name: &[u8], text: &[u8], sections: &[usize], count: usize) -> Option<usize>
-    requires { 2 * count ≤ length sections.now }
-    ensures { SectionFound name.now text.now count sections.now result }
-{
-    for i in 0..count {
-        if is_named(name, text, sections[2 * i], sections[2 * i + 1]) {
-            return Some(i);
+impl Builder {
+    // Whether the section with this index has this name.
+    fn section_is(&self, index: usize, name: &[u8]) -> bool
+        requires { index < self.now.state.sections }
+        ensures { result ≡ section_named name.now self.now.text self.now.sections index }
+    {
+        is_named(
+            name,
+            &self.text,
+            self.sections[2 * index],
+            self.sections[2 * index + 1],
+        )
+    }
+
+    // The index of a section with this name. All of them are looked at, one after another.
+    fn search_section(&self, name: &[u8]) -> Option<usize>
+        ensures { SectionFound name.now self.now.text self.now.state.sections self.now.sections result }
+    {
+        for i in 0..self.state.sections {
+            if self.section_is(i, name) {
+                return Some(i);
+            }
+        }
+        None
+    }
+
+    // The same, where a guess comes first. It may be any number; one that is right saves the search.
+    fn find_section(&self, name: &[u8]) -> Option<usize>
+        ensures { SectionFound name.now self.now.text self.now.state.sections self.now.sections result }
+    {
+        match self.order.guess(name, &self.text, &self.sections) {
+            Some(guess) if guess < self.state.sections && self.section_is(guess, name) => {
+                Some(guess)
+            }
+            _ => self.search_section(name),
         }
     }
-    None
-}
 
-// The same, where a guess comes first. It may be any number; one that is right saves the search.
-fn find_section(
-    name: &[u8],
-    text: &[u8],
-    sections: &[usize],
-    count: usize,
-    guess: Option<usize>,
-) -> Option<usize>
-    requires { 2 * count ≤ length sections.now }
-    ensures { SectionFound name.now text.now count sections.now result }
-{
-    match guess {
-        Some(i) if i < count && is_named(name, text, sections[2 * i], sections[2 * i + 1]) => {
-            guess
+    // A new section behind the others, which is open then.
+    fn put_section(&mut self, name: &[u8])
+        requires fits { self.old.state.text + length name.now ≤ 65535 }
+        requires room { self.old.state.sections < 64 }
+        ensures { SectionPut name.now self.old self.new }
+    {
+        let start = self.state.text;
+        let count = self.state.sections;
+        lines::copy_into(name, &mut self.text, start);
+        lines::copy_into(&[start, name.len()], &mut self.sections, 2 * count);
+        self.state = State {
+            text: start + name.len(),
+            sections: count + 1,
+            entries: self.state.entries,
+            current: count + 1,
+        };
+    }
+
+    // A header with this name: an earlier section goes on, or a new one opens.
+    pub(crate) fn open_section(&mut self, name: &[u8], number: usize) -> Result<(), Error>
+        requires { self.old.state.text + length name.now ≤ 65535 }
+        ensures { TakesLine (header name.now) number self.old result self.new }
+    {
+        if let Some(index) = self.find_section(name) {
+            self.state.current = index + 1;
+            return Ok(());
         }
-        _ => search_sections(name, text, sections, count),
+        if 64 <= self.state.sections {
+            return Err(Error::TooMany(number));
+        }
+        self.order.put(name, &self.text, &self.sections);
+        self.put_section(name);
+        Ok(())
     }
-}
-
-// A new section behind the others.
-fn put_section(name: &[u8], state: State, text: &mut [u8], sections: &mut [usize]) -> State
-    requires { (state.text + length name.now ≤ length text.old) × (2 * state.sections + 2 ≤ length sections.old) }
-    ensures { SectionPut name.now state text.old sections.old result text.new sections.new }
-{
-    let start = state.text;
-    let count = state.sections;
-    lines::copy_into(name, text, start);
-    sections[2 * count] = start;
-    sections[2 * count + 1] = name.len();
-    State {
-        text: start + name.len(),
-        sections: count + 1,
-        current: count + 1,
-        ..state
-    }
-}
-
-// A header with this name: an earlier section goes on, or a new one opens.
-pub(crate) fn open_section(
-    name: &[u8],
-    number: usize,
-    state: State,
-    text: &mut [u8],
-    sections: &mut [usize],
-    order: &mut Order,
-) -> Result<State, Error>
-    requires { (state.text + length name.now ≤ length text.old) × (state.sections ≤ 64) × (128 ≤ length sections.old) }
-    ensures { TakesHeader (header name.now) number state text.old sections.old result text.new sections.new }
-{
-    let count = state.sections;
-    let guess = order.guess(name, text, sections);
-    if let Some(index) = find_section(name, text, sections, count, guess) {
-        return Ok(State {
-            current: index + 1,
-            ..state
-        });
-    }
-    if 64 <= count {
-        return Err(Error::TooMany(number));
-    }
-    order.put(name, text, sections);
-    Ok(put_section(name, state, text, sections))
 }
