@@ -60,7 +60,7 @@ tail_byte m rs bs w = next_byte 0x80 0xBF (0x80 + m % 0x40) rs bs (omega arith) 
 
 -- ---- code points
 
-split {ℓ} : {X : Type ℓ} (n k : ℕ) → (n ≤ k → X) → (k < n → X) → X
+pub split {ℓ} : {X : Type ℓ} (n k : ℕ) → (n ≤ k → X) → (k < n → X) → X
 split n k f g = by_cases (leb n k) (λ e. f (leb-true n k e)) (λ e. g (leb-false n k e))
 
 no_surrogate : (n : ℕ) → between 0xD800 0xDFFF n ≡ false → n ≤ 0xDFFF → n < 0xD800

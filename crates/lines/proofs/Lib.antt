@@ -9,11 +9,12 @@ pub mod Stores
 pub mod Slices
 pub mod Trimming
 pub mod LineFeeds
+pub mod Chains
 -- UTF-8 and the check of a file
 pub mod Utf8Laws
-pub mod Characters
 pub mod LongestStart
 pub mod Encoded
+pub mod StdUtf8
 pub mod FileLaws
 -- physical and logical lines
 pub mod Runs

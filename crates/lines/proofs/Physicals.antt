@@ -3,17 +3,17 @@ use mathlib.Core.Path.{◌≡◌, refl, sym, ap, ◌∙◌, subst}
 use Prim.Native.Nat.{ℕ, suc, ◌+◌, ◌≤◌, ◌<◌}
 use native.Mathlib.Omega.{arith}
 use native.Mathlib.Nat.{add-zero}
-use native.Mathlib.Numerals.{add-one}
 use mathlib.Core.Bool.{true, false, not, ◌||◌}
 use mathlib.Core.Option.{none, some}
 use mathlib.Core.List.{[], ◌∷◌, ◌++◌}
-use lib.ListN.{length, take, drop, get_or, take-append-drop, drop_of_length-le}
-use lib.Seq.{take_all, length-take-le, drop-cons}
+use lib.ListN.{length, take, drop, get_or, take-append-drop}
+use lib.Seq.{take_all, length-take-le}
 use lib.Dec.{eqb}
 use borrow.Author.Tests.{eqb-true}
 use Rattle.lines.specs.Laws.{no_lf}
 use Rattle.lines.specs.Bytes.{Bytes, blank, is_lf, all, line_feeds}
 use Rattle.lines.specs.Lines.{Line, prepend, physical, comment}
+use Rattle.std.specs.Prelude.{Some, None, slice_get}
 use Rattle.lines.specs.LineSteps.{line_length}
 use Rattle.lines.proofs.Bools.{by_cases, and_left, and_right, not_true}
 
@@ -115,21 +115,6 @@ pub physical_open : (bs : Bytes) (n a : ℕ) → 0 < length bs → length bs ≤
 physical_open [] n a p h = absurd (omega arith)
 physical_open (b ∷ bs) n a p h = physical_last b bs n a (rw (line_alone (b ∷ bs) h) at (line_no_lf (b ∷ bs)))
 
--- ---- counted byte by byte
-
-module _ (f : Bytes) (i : ℕ) where
-  pub line_length_lf : i < length f → is_lf (get_or f i 0) ≡ true → line_length (drop i f) ≡ 0
-  unfolding line_length
-  line_length_lf h e = ap line_length (drop-cons f i 0 h) ∙ rw e
-
-  pub line_length_more : i < length f → is_lf (get_or f i 0) ≡ false → line_length (drop i f) ≡ suc (line_length (drop (i + 1) f))
-  unfolding line_length
-  line_length_more h e = ap line_length (drop-cons f i 0 h) ∙ rw (e, add-one)
-
-  pub line_length_end : length f ≤ i → line_length (drop i f) ≡ 0
-  unfolding line_length
-  line_length_end h = ap line_length (drop_of_length-le f h)
-
 -- ---- comments
 
 -- the first byte decides, 0 standing for none
@@ -137,6 +122,22 @@ pub comment_first : (l : Bytes) → comment l ≡ (eqb (get_or l 0 0) 0x23 || eq
 unfolding comment
 comment_first [] = refl
 comment_first (b ∷ bs) = refl
+
+pub comment_of : (l : Bytes) (b : ℕ) → Some b ≡ slice_get l 0 → comment l ≡ (eqb b 0x23 || eqb b 0x3B)
+unfolding comment
+comment_of [] b e = absurd (clash e)
+  where
+    clash : Some b ≡ None → ⊥
+    clash q = cc
+comment_of (c ∷ cs) b e = let q : c ≡ b = cc in rw q
+
+pub comment_none : (l : Bytes) → None ≡ slice_get l 0 → comment l ≡ false
+unfolding comment
+comment_none [] e = refl
+comment_none (b ∷ bs) e = absurd (clash e)
+  where
+    clash : None ≡ Some b → ⊥
+    clash q = cc
 
 -- the LF behind a line does not make it a comment
 pub comment_line : (l rest : Bytes) → comment (l ++ 0x0A ∷ rest) ≡ comment l

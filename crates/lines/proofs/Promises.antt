@@ -15,7 +15,7 @@ use Rattle.lines.specs.Buffers.{filled}
 use Rattle.lines.specs.Cursors.{logical_from, cursor_past, next, found, ended, answer_for, bytes_for, NextLine}
 use Rattle.lines.specs.declared.error.Error.{Error}
 use Rattle.lines.specs.declared.joiner.Cursor.{Cursor}
-use Rattle.lines.specs.declared.joiner.Next.TheVariants.{Found, End, Refused}
+use Rattle.std.specs.Prelude.{Ok, Err, Some, None}
 use Rattle.lines.specs.Laws.{FoundLine, LongLine}
 use Rattle.lines.proofs.Bools.{by_cases, clash}
 use Rattle.lines.proofs.Reading.{ahead, next_short, next_none, next_found, next_long}
@@ -44,7 +44,7 @@ case f c n =
 -- ---- one law for each answer
 
 module _ (f : Bytes) (c : Cursor) (before after : Bytes) where
-  pub found_line : (n m : ℕ) (d : Cursor) → NextLine f c before after (Found n m d) → FoundLine f c before after n m d
+  pub found_line : (n m : ℕ) (d : Cursor) → NextLine f c before after (Ok (Some (record { length = n; first = m; next = d }))) → FoundLine f c before after n m d
   found_line n m d p = go (case f c (length before))
     where
       go : Case f c (length before) → FoundLine f c before after n m d
@@ -69,7 +69,7 @@ module _ (f : Bytes) (c : Cursor) (before after : Bytes) where
             shorter = omega (arith, qn, a.shorter, ap (λ (x : Cursor). x.offset) qd);
           }
 
-  pub ended_line : NextLine f c before after End → (logical_from f c ≡ []) × (after ≡ before)
+  pub ended_line : NextLine f c before after (Ok None) → (logical_from f c ≡ []) × (after ≡ before)
   ended_line p = go (case f c (length before))
     where
       go : Case f c (length before) → (logical_from f c ≡ []) × (after ≡ before)
@@ -80,7 +80,7 @@ module _ (f : Bytes) (c : Cursor) (before after : Bytes) where
           let q : accepted ended ≡ accepted (found (length l.bytes) l.number (cursor_past f c l)) = p.answer ∙ ap (answer_for f c) e in clash (cc)
 
   -- with a buffer that is long enough
-  pub long_line : (e : Error) → 4096 ≤ length before → NextLine f c before after (Refused e) → LongLine f c before after e
+  pub long_line : (e : Error) → 4096 ≤ length before → NextLine f c before after (Err e) → LongLine f c before after e
   long_line e room p = go (case f c (length before))
     where
       go : Case f c (length before) → LongLine f c before after e

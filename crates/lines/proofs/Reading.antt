@@ -19,7 +19,10 @@ use Rattle.lines.specs.Buffers.{filled}
 use Rattle.lines.specs.Cursors.{lines_at, logical_from, end_of, bytes_between, cursor_past, next_of, next, found, answer_for, bytes_for, next_means, NextLine}
 use Rattle.lines.specs.LineSteps.{piece, ends, At, PhysicalAt, PieceOf, Skipped, MeasuredAt}
 use Rattle.lines.specs.declared.joiner.Cursor.{Cursor}
-use Rattle.lines.specs.declared.joiner.Next.{Next}
+use Rattle.lines.specs.declared.joiner.LogicalLine.{LogicalLine}
+use Rattle.lines.specs.declared.error.Error.{Error}
+use Rattle.std.specs.Prelude.{Result}
+use Rattle.std.specs.Prelude as code
 use Rattle.lines.specs.declared.joiner.Physical.{Physical}
 use Rattle.lines.specs.declared.joiner.Piece.{Piece}
 use Rattle.lines.specs.declared.joiner.Measured.{Measured}
@@ -70,7 +73,7 @@ module _ (f : Bytes) (c : Cursor) (n : ℕ) where
       next_long h = next_from ∙ ap next_of e ∙ rw (lt-ltb 4096 (length l.bytes) h)
 
 -- the promise, from what the next line is
-pub promised : (f : Bytes) (c : Cursor) (d d' : Bytes) (r : Next) (o : Outcome (Option Line)) → next f c (length d) ≡ o
+pub promised : (f : Bytes) (c : Cursor) (d d' : Bytes) (r : Result (code.Option LogicalLine) Error) (o : Outcome (Option Line)) → next f c (length d) ≡ o
     → next_means r ≡ answer_for f c o → d' ≡ filled (bytes_for o) d → NextLine f c d d' r
 promised f c d d' r o e a b = record { answer = a ∙ ap (answer_for f c) (sym e); buffer = b ∙ ap (λ (x : Outcome (Option Line)). filled (bytes_for x) d) (sym e) }
 

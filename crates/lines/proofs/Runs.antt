@@ -1,17 +1,15 @@
 -- The closing run of backslashes: a byte that is none starts it afresh, and a line of backslashes is
 -- all run.
-use mathlib.Core.Path.{◌≡◌, refl, sym, ap, ◌∙◌}
-use Prim.Native.Nat.{ℕ, suc, ◌+◌, ◌-◌, ◌≤◌}
+use mathlib.Core.Path.{◌≡◌, refl, ap, ◌∙◌}
+use Prim.Native.Nat.{ℕ, suc}
 use native.Mathlib.Omega.{arith}
-use native.Mathlib.Numerals.{add-one}
-use mathlib.Core.Bool.{true, false, not}
+use mathlib.Core.Bool.{true, false, ◌&&◌}
 use mathlib.Core.List.{[], ◌∷◌, ◌++◌}
-use lib.ListN.{length, get_or, take, drop, length-drop}
-use lib.Seq.{split_at, drop-cons, drop-length}
+use lib.ListN.{length, length-append}
 use borrow.Author.Tests.{eqb-true}
 use Rattle.lines.specs.Bytes.{Bytes, all}
 use Rattle.lines.specs.Lines.{backslash, closing_run, odd, continued, spaced}
-use Rattle.lines.proofs.Bools.{by_cases, impossible, and_left, and_right, and_false, all_append}
+use Rattle.lines.proofs.Bools.{by_cases, impossible, and_left, and_right, and_false, and_true, all_append}
 
 pub closing_all : (l : Bytes) → all backslash l ≡ true → closing_run l ≡ length l
 unfolding closing_run
@@ -67,24 +65,23 @@ spaced-length (b ∷ c ∷ cs) = ap suc (spaced-length (c ∷ cs))
 
 -- ---- counted from the end
 
--- the bytes from n on are all backslashes, and the byte before them is none
-pub run_stops : (l : Bytes) (j n : ℕ) → j + 1 ≡ n → n ≤ length l → backslash (get_or l j 0) ≡ false → all backslash (drop n l) ≡ true
-    → closing_run l ≡ length l - n
-run_stops l j n e h other run =
-    let c : ℕ = get_or l j 0 in
-    let d : drop (suc j) l ≡ drop n l = ap (λ (k : ℕ). drop k l) (sym (add-one j) ∙ e) in
-    ap closing_run (split_at l j 0 (omega arith)) ∙ closing_after (take j l) c (drop (suc j) l) other
-    ∙ ap closing_run d ∙ closing_all (drop n l) run ∙ length-drop n l
+pub closing_more : (l : Bytes) (b : ℕ) → backslash b ≡ true → closing_run (l ++ b ∷ []) ≡ suc (closing_run l)
+unfolding closing_run all
+closing_more [] b h = rw h
+closing_more (x ∷ l) b h =
+    let e : all backslash (l ++ b ∷ []) ≡ all backslash l = all_append backslash l (b ∷ []) ∙ rw h (and_true (all backslash l)) in
+    by_cases (backslash x && all backslash l)
+    (λ y. rw (e, y) (length_snoc l b))
+    (λ y. rw (e, y) (closing_more l b h))
+  where
+    length_snoc : (l : Bytes) (b : ℕ) → suc (length (l ++ b ∷ [])) ≡ suc (suc (length l))
+    length_snoc l b = omega (arith, length-append l (b ∷ []))
 
--- one backslash more
-pub run_more : (l : Bytes) (j n : ℕ) → j + 1 ≡ n → n ≤ length l → backslash (get_or l j 0) ≡ true → all backslash (drop n l) ≡ true
-    → (all backslash (drop j l) ≡ true) × (odd (length l - j) ≡ not (odd (length l - n)))
-unfolding all odd
-run_more l j n e h slash run =
-    let d : drop (suc j) l ≡ drop n l = ap (λ (k : ℕ). drop k l) (sym (add-one j) ∙ e) in
-    let m : length l - j ≡ suc (length l - n) = omega arith in
-    (ap (all backslash) (drop-cons l j 0 (omega arith)) ∙ rw (slash, d) run, rw m)
+pub closing_stops : (l : Bytes) (b : ℕ) → backslash b ≡ false → closing_run (l ++ b ∷ []) ≡ 0
+unfolding closing_run
+closing_stops l b h = closing_after l b [] h
 
-pub run_none : (l : Bytes) → (all backslash (drop (length l) l) ≡ true) × (odd (length l - length l) ≡ false)
-unfolding all odd
-run_none l = let z : length l - length l ≡ 0 = omega arith in (rw (drop-length l), rw z)
+pub closing_none : (l : Bytes) → length l ≡ 0 → closing_run l ≡ 0
+unfolding closing_run
+closing_none [] h = refl
+closing_none (b ∷ bs) h = absurd (omega arith)

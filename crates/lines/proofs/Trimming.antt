@@ -1,15 +1,18 @@
 -- Laws of trimming. `trim_end` is taken apart at its first byte: `trim_end (b ∷ bs) ≡ keep b (trim_end bs)`.
 use mathlib.Core.Path.{◌≡◌, refl, sym, ap, ◌∙◌}
-use Prim.Native.Nat.{ℕ, suc, ◌+◌, ◌-◌, ◌≤◌, ◌<◌}
+use Prim.Native.Nat.{ℕ, suc, ◌≤◌, ◌<◌}
 use native.Mathlib.Omega.{arith}
 use mathlib.Core.Bool.{true, false, not, ◌&&◌, cond}
 use mathlib.Core.List.{[], ◌∷◌, ◌++◌, append-nil, append_assoc}
-use lib.ListN.{length, take, drop, get_or, drop_of_length-le}
-use lib.Seq.{take-suc}
+use lib.ListN.{length, drop}
+use native.Mathlib.Numerals.{add-one}
+use Rattle.std.proofs.lemmas.Iterator.{index_from_first}
+use Rattle.std.specs.List.{AllWithin, HoldsAt}
+use Rattle.std.specs.Option.{MatchOption, unwrap_or}
+use Rattle.std.specs.Prelude.{Option}
 use Rattle.lines.specs.Bytes.{Bytes, blank, all}
 use Rattle.lines.specs.Trim.{trim_start, trim_end, trimmed}
 use Rattle.lines.proofs.Bools.{by_cases, and_left, and_right, and_false, not_true}
-use Rattle.lines.proofs.Slices.{opened}
 
 -- ---- at the start
 
@@ -35,6 +38,25 @@ unfolding trim_start
 length-trim_start [] = omega arith
 length-trim_start (b ∷ bs) = by_cases (blank b) (λ e. rw e (omega (arith, length-trim_start bs))) (λ e. rw e (omega arith))
 
+-- how many blanks a text starts with, and what is left behind them
+unfoldable pub blanks_before : Bytes → ℕ
+blanks_before [] = 0
+blanks_before (b ∷ bs) = cond (blank b) (suc (blanks_before bs)) 0
+
+trim_start_behind : (t : Bytes) → drop (blanks_before t) t ≡ trim_start t
+unfolding blanks_before trim_start
+trim_start_behind [] = refl
+trim_start_behind (b ∷ bs) = by_cases (blank b) (λ e. rw e (trim_start_behind bs)) (λ e. rw e)
+
+-- what is left from the first byte on that is no blank
+pub trim_start_from : (t : Bytes) (r : Option ℕ) (n : ℕ)
+    → MatchOption r (AllWithin (λ b. blank b ≡ true) t 0 (length t)) (λ i. (i < length t) × HoldsAt (λ b. blank b ≡ false) t i × AllWithin (λ b. blank b ≡ true) t 0 i)
+    → n ≡ unwrap_or r (length t) → drop n t ≡ trim_start t
+unfolding blanks_before
+trim_start_from t r n m e =
+    let f : blanks_before t ≡ unwrap_or r (length t) = index_from_first blanks_before (λ b. blank b ≡ false) (λ b. blank b ≡ true) refl (λ b bs h. rw h) (λ b bs h. rw (h, add-one)) t r m in
+    ap (λ i. drop i t) (e ∙ sym f) ∙ trim_start_behind t
+
 -- blanks before a text
 pub trim_start_blanks : (a t : Bytes) → all blank a ≡ true → trim_start (a ++ t) ≡ trim_start t
 unfolding all
@@ -52,6 +74,10 @@ keep b (c ∷ cs) = b ∷ c ∷ cs
 pub trim_end_nil : trim_end [] ≡ []
 unfolding trim_end
 trim_end_nil = refl
+
+pub trim_end_empty : (l : Bytes) → length l ≡ 0 → trim_end l ≡ l
+trim_end_empty [] h = trim_end_nil
+trim_end_empty (b ∷ bs) h = absurd (omega arith)
 
 -- blanks alone go; otherwise the first byte stays
 pub trim_end-all : (b : ℕ) (bs : Bytes) → all blank (b ∷ bs) ≡ true → trim_end (b ∷ bs) ≡ []
@@ -176,35 +202,3 @@ unfolding trimmed
 length_trim l = omega (arith, length-trim_end (trim_start l), length-trim_start l)
 
 -- ---- a step of a loop over a text
-
--- the last byte of the bytes up to an index
-closed : (s : Bytes) (at : ℕ) → 0 < at → at ≤ length s → take at s ≡ take (at - 1) s ++ get_or s (at - 1) 0 ∷ []
-closed s at h k =
-    let e : at ≡ suc (at - 1) = omega arith in
-    ap (λ (n : ℕ). take n s) e ∙ take-suc s (at - 1) 0 (omega arith)
-
-pub end_part : (s : Bytes) (at : ℕ) → take (at - 0) s ≡ take at s
-end_part s at = let e : at - 0 ≡ at = omega arith in rw e
-
-pub start_blank : (s : Bytes) (at : ℕ) → at < length s → blank (get_or s at 0) ≡ true
-    → trim_start (drop at s) ≡ trim_start (drop (at + 1) s)
-start_blank s at h e = rw (opened s at h) (trim_start-blank (get_or s at 0) (drop (at + 1) s) e)
-
-pub start_nonblank : (s : Bytes) (at : ℕ) → at < length s → blank (get_or s at 0) ≡ false
-    → trim_start (drop at s) ≡ drop at s
-start_nonblank s at h e = rw (opened s at h) (trim_start_nonblank (get_or s at 0) (drop (at + 1) s) e)
-
-pub end_blank : (s : Bytes) (at : ℕ) → 0 < at → at ≤ length s → blank (get_or s (at - 1) 0) ≡ true
-    → trim_end (take at s) ≡ trim_end (take (at - 1) s)
-end_blank s at h k e = ap trim_end (closed s at h k) ∙ trim_end-blank (take (at - 1) s) (get_or s (at - 1) 0) e
-
-pub end_nonblank : (s : Bytes) (at : ℕ) → 0 < at → at ≤ length s → blank (get_or s (at - 1) 0) ≡ false
-    → trim_end (take at s) ≡ take at s
-end_nonblank s at h k e =
-    ap trim_end (closed s at h k) ∙ trim_end_last (take (at - 1) s) (get_or s (at - 1) 0) e ∙ sym (closed s at h k)
-
-pub start_done : (s : Bytes) (at : ℕ) → length s ≤ at → trim_start (drop at s) ≡ drop at s
-start_done s at h = rw (drop_of_length-le s h) trim_start_nil
-
-pub end_done : (s : Bytes) (at : ℕ) → at ≤ 0 → trim_end (take at s) ≡ take at s
-end_done s at h = let e : at ≡ 0 = omega arith in rw e trim_end_nil

@@ -6,8 +6,10 @@ use Rattle.lines.specs.Lines.{Line, physical, joined, too_long}
 use Rattle.lines.specs.Answers.{Outcome, accepted, refused, error_means}
 use Rattle.lines.specs.Buffers.{filled}
 use Rattle.lines.specs.declared.joiner.Cursor.{Cursor}
-use Rattle.lines.specs.declared.joiner.Next.{Next}
-use Rattle.lines.specs.declared.joiner.Next.TheVariants.{Found, End, Refused}
+use Rattle.lines.specs.declared.joiner.LogicalLine.{LogicalLine}
+use Rattle.lines.specs.declared.error.Error.{Error}
+use Rattle.std.specs.Prelude.{Some, None, Result, Ok, Err}
+use Rattle.std.specs.Prelude as code
 
 -- where a reading starts: at the first byte, in line 1
 abbrev pub first_cursor : Cursor
@@ -72,12 +74,12 @@ bytes_for (accepted none) = []
 bytes_for (refused n p) = []
 
 -- what the answer of `next_line` means
-abbrev pub next_means : Next → Outcome Reading
-next_means (Found size first next) = accepted (found size first next)
-next_means End = accepted ended
-next_means (Refused e) = error_means e
+abbrev pub next_means : Result (code.Option LogicalLine) Error → Outcome Reading
+next_means (Ok (Some l)) = accepted (found l.length l.first l.next)
+next_means (Ok None) = accepted ended
+next_means (Err e) = error_means e
 
 -- the promise of `next_line`: the answer, and the whole buffer
-pub record NextLine (f : Bytes) (c : Cursor) (before after : Bytes) (r : Next) : Type 0 where
+pub record NextLine (f : Bytes) (c : Cursor) (before after : Bytes) (r : Result (code.Option LogicalLine) Error) : Type 0 where
   pub answer : next_means r ≡ answer_for f c (next f c (length before))
   pub buffer : after ≡ filled (bytes_for (next f c (length before))) before

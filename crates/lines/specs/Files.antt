@@ -1,10 +1,9 @@
 -- What is judged of a whole file before its lines: refusals 2, 3 and 4.
-use Rattle.std.specs.Prelude.{ℕ, suc, ◌+◌, Bool, false, not, cond, [], ◌∷◌, length, take, ltb}
+use Rattle.std.specs.Prelude.{ℕ, suc, ◌+◌, Bool, false, not, cond, [], ◌∷◌, length, take, ltb, Result, Ok, Err}
 use Rattle.lines.specs.Bytes.{Bytes, is_lf, control, any, line_feeds}
 use Rattle.lines.specs.Utf8.{utf8, longest_start}
 use Rattle.lines.specs.Answers.{Outcome, accepted, refused, error_means}
-use Rattle.lines.specs.declared.file.Check.{Check}
-use Rattle.lines.specs.declared.file.Check.TheVariants.{Accepted, Refused}
+use Rattle.lines.specs.declared.error.Error.{Error}
 
 -- not empty, and its last byte is no LF
 unfoldable pub unterminated : Bytes → Bool
@@ -41,6 +40,6 @@ unfolding size checked_bytes
 checked_file f = cond (ltb 65535 (size f)) (refused 2 0) (checked_bytes f)
 
 -- what the answer of `check_file` means
-abbrev pub check_means : Check → Outcome (Unit {0})
-check_means Accepted = accepted tt
-check_means (Refused e) = error_means e
+abbrev pub check_means : Result (Unit {0}) Error → Outcome (Unit {0})
+check_means (Ok u) = accepted u
+check_means (Err e) = error_means e

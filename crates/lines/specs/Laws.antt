@@ -1,6 +1,6 @@
 -- What the crates above rest on beside the promises: statements about the definitions, proved in
 -- proofs/Laws.antt.
-use Rattle.std.specs.Prelude.{◌≡◌, ℕ, suc, ◌+◌, ◌≤◌, ◌<◌, Bool, true, false, not, ◌&&◌, List, [], ◌∷◌, ◌++◌, length, leb, eqb}
+use Rattle.std.specs.Prelude.{◌≡◌, ℕ, suc, ◌+◌, ◌≤◌, ◌<◌, Bool, true, false, not, ◌&&◌, List, [], ◌∷◌, ◌++◌, length, leb, eqb, Ok, Err, Some, None}
 use Rattle.lines.specs.Bytes.{Bytes, is_lf, blank, control, between, all, line_feeds}
 use Rattle.lines.specs.Answers.{accepted, number_of, place_of}
 use Rattle.lines.specs.Utf8.{utf8, encoded}
@@ -10,7 +10,6 @@ use Rattle.lines.specs.Cursors.{first_cursor, logical_from, cursor_past, NextLin
 use Rattle.lines.specs.Buffers.{filled}
 use Rattle.lines.specs.declared.error.Error.{Error}
 use Rattle.lines.specs.declared.joiner.Cursor.{Cursor}
-use Rattle.lines.specs.declared.joiner.Next.TheVariants.{Found, End, Refused}
 
 -- ---- UTF-8
 
@@ -125,12 +124,12 @@ pub record FoundLine (f : Bytes) (c : Cursor) (before after : Bytes) (n m : ℕ)
 
 abbrev pub FoundTells : Type 0
 FoundTells = (f : Bytes) (c : Cursor) (before after : Bytes) (n m : ℕ) (d : Cursor)
-    → NextLine f c before after (Found n m d) → FoundLine f c before after n m d
+    → NextLine f c before after (Ok (Some (record { length = n; first = m; next = d }))) → FoundLine f c before after n m d
 
 -- no line is left, and the buffer is as it was
 abbrev pub EndTells : Type 0
 EndTells = (f : Bytes) (c : Cursor) (before after : Bytes)
-    → NextLine f c before after End → (logical_from f c ≡ []) × (after ≡ before)
+    → NextLine f c before after (Ok None) → (logical_from f c ≡ []) × (after ≡ before)
 
 -- With a buffer that is long enough, a refusal is 5: the next line is too long. The buffer is as it was.
 pub record LongLine (f : Bytes) (c : Cursor) (before after : Bytes) (e : Error) : Type 0 where
@@ -144,7 +143,7 @@ pub record LongLine (f : Bytes) (c : Cursor) (before after : Bytes) (e : Error) 
 
 abbrev pub RefusedTells : Type 0
 RefusedTells = (f : Bytes) (c : Cursor) (before after : Bytes) (e : Error)
-    → 4096 ≤ length before → NextLine f c before after (Refused e) → LongLine f c before after e
+    → 4096 ≤ length before → NextLine f c before after (Err e) → LongLine f c before after e
 
 -- ---- sizes
 

@@ -13,5 +13,4 @@ pub mod Cursors
 pub mod Laws
 pub mod CommentLaws
 -- cited by no public promise
-pub mod CharSteps
 pub mod LineSteps

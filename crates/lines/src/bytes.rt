@@ -17,87 +17,49 @@ pub fn is_between(low: u8, high: u8, b: u8) -> bool
 pub fn is_blank(b: u8) -> bool
     ensures { result ≡ blank b }
 {
-    b == b' ' || b == b'\t'
+    matches!(b, b' ' | b'\t')
 }
 
 // A control byte of a file: 00 to 1F but tab and LF, and 7F.
 pub fn is_control(b: u8) -> bool
     ensures { result ≡ control b }
 {
-    if b <= 0x1F {
-        return b != b'\t' && b != b'\n';
-    }
-    b == 0x7F
+    matches!(b, 0x00..=0x08 | 0x0B..=0x1F | 0x7F)
 }
 
 pub fn is_letter(b: u8) -> bool
     ensures { result ≡ letter b }
 {
-    is_between(b'A', b'Z', b) || is_between(b'a', b'z', b)
+    b.is_ascii_alphabetic()
 }
 
 pub fn is_digit(b: u8) -> bool
     ensures { result ≡ digit b }
 {
-    is_between(b'0', b'9', b)
+    b.is_ascii_digit()
 }
 
 // A byte that a key may have.
 pub fn is_key_byte(b: u8) -> bool
     ensures { result ≡ key_byte b }
 {
-    if is_letter(b) {
-        return true;
-    }
-    if is_digit(b) {
-        return true;
-    }
-    if b == b'-' {
-        return true;
-    }
-    b == b'_' || b == b'.'
+    is_letter(b) || is_digit(b) || matches!(b, b'-' | b'_' | b'.')
 }
 
 // A byte that the name in a section header may have.
 pub fn is_header_byte(b: u8) -> bool
     ensures { result ≡ header_byte b }
 {
-    if b == b'[' {
-        return false;
-    }
-    if b == b']' {
-        return false;
-    }
-    is_between(0x20, 0x7E, b)
+    is_between(0x20, 0x7E, b) && !matches!(b, b'[' | b']')
 }
 
 // ---- comparison
 
-// Whether texts that were the same so far still are, with one byte more of each.
-fn still_same(before: bool, a: u8, b: u8) -> bool
-    ensures { result ≡ (before && eqb a b) }
-{
-    if a == b {
-        return before;
-    }
-    false
-}
-
-// Equal byte for byte. The loop does not end at a difference: so the compiler can take many bytes at a time, and
-// texts with a long common start cost no more than others.
+// Equal byte for byte.
 pub fn same(a: &[u8], b: &[u8]) -> bool
     ensures { result ≡ equal a.now b.now }
 {
-    if a.len() != b.len() {
-        return false;
-    }
-    let mut result = true;
-    let mut i = 0;
-    while i < a.len() {
-        result = still_same(result, a[i], b[i]);
-        i += 1;
-    }
-    result
+    a == b
 }
 
 // ---- trimming: the part of a text without the blanks at one end, or at both
@@ -105,29 +67,24 @@ pub fn same(a: &[u8], b: &[u8]) -> bool
 pub fn trim_start(text: &[u8]) -> &[u8]
     ensures { result.now ≡ trim_start text.now }
 {
-    let mut start = 0;
-    while start < text.len() {
-        if is_blank(text[start]) {
-            start += 1;
-        } else {
-            return &text[start..];
-        }
-    }
+    let start = text
+        .iter()
+        .position(|b| !is_blank(*b))
+        .unwrap_or(text.len());
     &text[start..]
 }
 
 pub fn trim_end(text: &[u8]) -> &[u8]
     ensures { result.now ≡ trim_end text.now }
 {
-    let mut end = text.len();
-    while 0 < end {
-        if is_blank(text[end - 1]) {
-            end -= 1;
-        } else {
-            return &text[0..end];
+    let mut rest = text;
+    while let Some((last, front)) = rest.split_last() {
+        if !is_blank(*last) {
+            return rest;
         }
+        rest = front;
     }
-    &text[0..end]
+    rest
 }
 
 pub fn trim(text: &[u8]) -> &[u8]
@@ -138,20 +95,9 @@ pub fn trim(text: &[u8]) -> &[u8]
 
 // ---- copies
 
-// The loop of `copy_into`.
-fn store(part: &[u8], buffer: &mut [u8], at: usize)
-    requires { at + length part.now ≤ length buffer.old }
-    ensures { buffer.new ≡ put buffer.old at part.now }
-{
-    let mut i = 0;
-    while i < part.len() {
-        buffer[at + i] = part[i];
-        i += 1;
-    }
-}
-
-// Puts a part into a buffer from an index on. Where it does not fit, nothing changes and the answer is false.
-pub fn copy_into(part: &[u8], buffer: &mut [u8], at: usize) -> bool
+// Puts a part into a buffer from an index on, bytes and numbers alike. Where it does not fit, nothing changes and the answer
+// is false.
+pub fn copy_into<T: Copy>(part: &[T], buffer: &mut [T], at: usize) -> bool
     ensures answer { result ≡ leb (at + length part.now) (length buffer.old) }
     ensures held { buffer.new ≡
         cond (leb (at + length part.now) (length buffer.old))
@@ -164,35 +110,6 @@ pub fn copy_into(part: &[u8], buffer: &mut [u8], at: usize) -> bool
     if buffer.len() - at < part.len() {
         return false;
     }
-    store(part, buffer, at);
-    true
-}
-
-// The same for numbers.
-fn store_numbers(part: &[usize], buffer: &mut [usize], at: usize)
-    requires { at + length part.now ≤ length buffer.old }
-    ensures { buffer.new ≡ put buffer.old at part.now }
-{
-    let mut i = 0;
-    while i < part.len() {
-        buffer[at + i] = part[i];
-        i += 1;
-    }
-}
-
-pub fn copy_numbers_into(part: &[usize], numbers: &mut [usize], at: usize) -> bool
-    ensures answer { result ≡ leb (at + length part.now) (length numbers.old) }
-    ensures held { numbers.new ≡
-        cond (leb (at + length part.now) (length numbers.old))
-        (put numbers.old at part.now)
-        numbers.old }
-{
-    if numbers.len() < at {
-        return false;
-    }
-    if numbers.len() - at < part.len() {
-        return false;
-    }
-    store_numbers(part, numbers, at);
+    buffer[at..at + part.len()].copy_from_slice(part);
     true
 }

@@ -2,8 +2,10 @@
 ghost use Rattle.std.specs.Prelude.{◌≡◌};
 ghost use Rattle.lines.specs.Answers.{number_of, place_of};
 
+use std::fmt;
+
 // A fault in a line carries the line's number.
-#[derive(Clone, Copy)]
+#[derive(Clone, Copy, Debug, PartialEq, Eq)]
 pub enum Error {
     ShortBuffer,
     FileTooLong,
@@ -31,11 +33,16 @@ impl Error {
         ensures { result ≡ place_of self }
     {
         match self {
-            Error::ShortBuffer => 0,
-            Error::FileTooLong => 0,
-            Error::NotUtf8(line) => line,
-            Error::ControlByte(line) => line,
-            Error::LineTooLong(line) => line,
+            Error::ShortBuffer | Error::FileTooLong => 0,
+            Error::NotUtf8(line) | Error::ControlByte(line) | Error::LineTooLong(line) => line,
         }
     }
 }
+
+impl fmt::Display for Error {
+    fn fmt<W: fmt::Write>(&self, f: &mut fmt::Formatter<W>) -> fmt::Result {
+        write!(f, "refused {} at {}", self.number(), self.place())
+    }
+}
+
+impl std::error::Error for Error {}

@@ -1,17 +1,10 @@
 // The check of a whole file, before its lines are read.
-ghost use Rattle.std.specs.Prelude.{◌≡◌, ltb};
-ghost use Rattle.lines.specs.Files.{size, checked_bytes, checked_file, check_means};
-ghost use Rattle.lines.specs.CharSteps.{control_after};
+ghost use Rattle.std.specs.Prelude.{◌≡◌, ◌≤◌, length, ltb};
+ghost use Rattle.lines.specs.Files.{size, line_at, checked_bytes, checked_file, check_means};
 
-use crate::bytes::{is_between, is_control};
+use crate::bytes::is_control;
 use crate::error::Error;
-use crate::utf8::long_length;
-
-#[derive(Clone, Copy)]
-pub enum Check {
-    Accepted,
-    Refused(Error),
-}
+use crate::utf8::well_formed_length;
 
 // More than 65,535 bytes, where a file that is not empty and does not end in LF counts one more.
 fn too_long(file: &[u8]) -> bool
@@ -26,56 +19,34 @@ fn too_long(file: &[u8]) -> bool
     file[65534] != b'\n'
 }
 
-// The line of the first control byte, where `found` is that of the bytes before b; 0 is none.
-fn control_after(found: usize, line: usize, b: u8) -> usize
-    ensures { result ≡ control_after found line b }
+// The line in which an offset lies, counted from 1.
+fn line_at(offset: usize, file: &[u8]) -> usize
+    requires { offset ≤ length file.now }
+    ensures { result ≡ line_at offset file.now }
 {
-    if found == 0 {
-        if is_control(b) {
-            return line;
-        }
-    }
-    found
+    1 + file[..offset].iter().filter(|b| **b == b'\n').count()
 }
 
-// The bytes of a file: first UTF-8, then control bytes, in one pass from character to character. Bytes 20 to 7E are
-// characters that change nothing else; only the other characters of one byte can be an LF or a control byte.
-fn check_bytes(file: &[u8]) -> Check
+// The bytes of a file: first UTF-8, then control bytes, each over the whole file.
+fn check_bytes(file: &[u8]) -> Result<(), Error>
     ensures { check_means result ≡ checked_bytes file.now }
 {
-    let mut i = 0;
-    let mut line = 1;
-    let mut found = 0;
-    while i < file.len() {
-        let b = file[i];
-        if is_between(0x20, 0x7E, b) {
-            i += 1;
-        } else if b == b'\n' {
-            line += 1;
-            i += 1;
-        } else if b <= 0x7F {
-            found = control_after(found, line, b);
-            i += 1;
-        } else {
-            let n = long_length(&file[i..]);
-            if n == 0 {
-                return Check::Refused(Error::NotUtf8(line));
-            }
-            i += n;
-        }
+    let end = well_formed_length(file);
+    if end < file.len() {
+        return Err(Error::NotUtf8(line_at(end, file)));
     }
-    if found == 0 {
-        return Check::Accepted;
+    match file.iter().position(|b| is_control(*b)) {
+        Some(at) => Err(Error::ControlByte(line_at(at, file))),
+        None => Ok(()),
     }
-    Check::Refused(Error::ControlByte(found))
 }
 
 // What is judged of a whole file: its size, UTF-8, control bytes.
-pub fn check_file(file: &[u8]) -> Check
+pub fn check_file(file: &[u8]) -> Result<(), Error>
     ensures { check_means result ≡ checked_file file.now }
 {
     if too_long(file) {
-        return Check::Refused(Error::FileTooLong);
+        return Err(Error::FileTooLong);
     }
     check_bytes(file)
 }

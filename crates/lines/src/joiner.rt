@@ -6,7 +6,7 @@ ghost use Rattle.lines.specs.LineSteps.{piece, first_bytes, At, PhysicalAt, Stan
 
 use crate::bytes::copy_into;
 use crate::error::Error;
-use crate::physical::{is_comment, is_continued, line_end};
+use crate::physical::{is_comment, is_continued, line_length};
 
 // Where reading goes on: an offset of the file, and the number of its line.
 #[derive(Clone, Copy)]
@@ -24,17 +24,12 @@ impl Cursor {
     }
 }
 
+// A logical line that was read: its length, the number of its first physical line, and where to go on.
 #[derive(Clone, Copy)]
-pub enum Next {
-    // The line's length, the number of its first physical line, and where to go on.
-    Found {
-        length: usize,
-        first: usize,
-        next: Cursor,
-    },
-    // No line is left.
-    End,
-    Refused(Error),
+pub struct LogicalLine {
+    pub length: usize,
+    pub first: usize,
+    pub next: Cursor,
 }
 
 // The end of a physical line, without its LF, and where the next one starts.
@@ -63,21 +58,22 @@ fn physical_line(file: &[u8], c: Cursor) -> Physical
     requires { At file.now c }
     ensures { PhysicalAt file.now c result }
 {
-    let at = c.offset;
-    let line = c.line;
-    let end = line_end(file, at);
+    let end = c.offset + line_length(&file[c.offset..]);
     if end < file.len() {
         return Physical {
             end,
             next: Cursor {
                 offset: end + 1,
-                line: line + 1,
+                line: c.line + 1,
             },
         };
     }
     Physical {
         end,
-        next: Cursor { offset: end, line },
+        next: Cursor {
+            offset: end,
+            line: c.line,
+        },
     }
 }
 
@@ -177,37 +173,38 @@ fn copy_joined(file: &[u8], start: Cursor, buffer: &mut [u8])
     }
 }
 
-// The next logical line from a cursor on, not trimmed, at the front of the buffer. The buffer has at
-// least 4,096 bytes. A cursor that no reading gives is at the end. The line is measured before it is
-// copied: one that is refused leaves the buffer as it was.
-pub fn next_line(file: &[u8], cursor: Cursor, buffer: &mut [u8]) -> Next
+// The next logical line from a cursor on, not trimmed, at the front of the buffer; none where no line is left. The buffer
+// has at least 4,096 bytes. A cursor that no reading gives is at the end. The line is measured before it is copied: one
+// that is refused leaves the buffer as it was.
+pub fn next_line(
+    file: &[u8],
+    cursor: Cursor,
+    buffer: &mut [u8],
+) -> Result<Option<LogicalLine>, Error>
     ensures { NextLine file.now cursor buffer.old buffer.new result }
 {
     if buffer.len() < 4096 {
-        return Next::Refused(Error::ShortBuffer);
+        return Err(Error::ShortBuffer);
     }
     if file.len() < cursor.offset {
-        return Next::End;
+        return Ok(None);
     }
     if cursor.offset + 1 < cursor.line {
-        return Next::End;
+        return Ok(None);
     }
     let start = skip_comments(file, cursor);
-    let at = start.offset;
-    if file.len() <= at {
-        return Next::End;
+    if file.len() <= start.offset {
+        return Ok(None);
     }
-    let m = measure(file, start);
-    let length = m.length;
+    let Measured { length, next } = measure(file, start);
     let first = start.line;
     if 4096 < length {
-        return Next::Refused(Error::LineTooLong(first));
+        return Err(Error::LineTooLong(first));
     }
     copy_joined(file, start, buffer);
-    let next = m.next;
-    Next::Found {
+    Ok(Some(LogicalLine {
         length,
         first,
         next,
-    }
+    }))
 }

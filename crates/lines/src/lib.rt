@@ -9,11 +9,11 @@ mod physical;
 mod utf8;
 
 pub use bytes::{
-    copy_into, copy_numbers_into, is_between, is_blank, is_control, is_digit, is_header_byte,
-    is_key_byte, is_letter, same, trim, trim_end, trim_start,
+    copy_into, is_between, is_blank, is_control, is_digit, is_header_byte, is_key_byte, is_letter,
+    same, trim, trim_end, trim_start,
 };
 pub use error::Error;
-pub use file::{Check, check_file};
-pub use joiner::{Cursor, Next, next_line};
+pub use file::check_file;
+pub use joiner::{Cursor, LogicalLine, next_line};
 pub use physical::is_continued;
 pub use utf8::well_formed_length;

@@ -1,27 +1,20 @@
--- `trim_end` drops blanks. The invariant: trimming the text is trimming the bytes up to `end`.
+-- `trim_end` drops blanks. The invariant: trimming the text is trimming what is left of it.
 use mathlib.Core.Path.{sym, ap, ◌∙◌}
-use native.Mathlib.Omega.{arith}
-use lib.Seq.{take-length}
+use Rattle.std.proofs.Common.{rules}
 use Rattle.lines.specs.Trim.{trim_end}
-use Rattle.lines.proofs.Trimming.{end_part, end_blank, end_nonblank, end_done}
+use Rattle.lines.proofs.Trimming.{trim_end-blank, trim_end_last, trim_end_empty}
 use Rattle.lines.proofs.bytes.trim_end.Goals as goal
 
-pub loop-end-init : goal.loop-end-init
-loop-end-init c = (omega arith, ap trim_end (sym (take-length c.args.text.now)))
+pub returns-then-not-is_blank : goal.returns-then-not-is_blank
+returns-then-not-is_blank c =
+    let s = c.in-Some in
+    let e = s.ensures.cases.0 in
+    e ∙ sym (c.loop-last.invariant ∙ ap trim_end e ∙ trim_end_last s.front.now s.last.now (search rules))
 
-pub loop-end-preserved : goal.loop-end-preserved
-loop-end-preserved c = (
-  omega arith,
-  c.loop-end.invariant.1 ∙ end_blank c.args.text.now c.loop-end.end (omega arith) (omega arith) (sym c.is_blank.ensures ∙ c.if-is_blank.true),
-)
-
-pub returns-else-is_blank : goal.returns-else-is_blank
-returns-else-is_blank c =
-    let s = c.args.text.now in
-    let e = sym c.is_blank.ensures ∙ c.if-is_blank.false in
-    end_part s c.loop-end.end ∙ sym (c.loop-end.invariant.1 ∙ end_nonblank s c.loop-end.end (omega arith) (omega arith) e)
+pub loop-last-preserved : goal.loop-last-preserved
+loop-last-preserved c =
+    let s = c.in-Some in
+    c.loop-last.invariant ∙ ap trim_end s.ensures.cases.0 ∙ trim_end-blank s.front.now s.last.now (search rules)
 
 pub returns : goal.returns
-returns c =
-    let s = c.args.text.now in
-    end_part s c.loop-end.end ∙ sym (c.loop-end.invariant.1 ∙ end_done s c.loop-end.end (omega arith))
+returns c = sym (c.loop-last.invariant ∙ trim_end_empty c.loop-last.rest.now c.in_default.ensures.cases)

@@ -1,26 +1,18 @@
--- `trim_start` passes blanks. The invariant: trimming the text is trimming what is left of it.
-use mathlib.Core.Path.{refl, sym, ◌∙◌}
-use native.Mathlib.Omega.{arith}
+-- `trim_start`: the first byte that is no blank is where the text starts.
+use mathlib.Core.Path.{◌≡◌, ◌∙◌}
+use mathlib.Core.Bool.{true, false}
+use Rattle.std.proofs.Common.{rules, tests}
+use Rattle.std.proofs.lemmas.Iterator.{YieldsList-from_slice, IsFirst-from_position}
+use Rattle.lines.specs.Bytes.{blank}
 use Rattle.lines.proofs.Slices.{part_from}
-use Rattle.lines.proofs.Trimming.{start_blank, start_nonblank, start_done}
+use Rattle.lines.proofs.Trimming.{trim_start_from}
 use Rattle.lines.proofs.bytes.trim_start.Goals as goal
-
-pub loop-start-init : goal.loop-start-init
-loop-start-init c = (omega arith, refl)
-
-pub loop-start-preserved : goal.loop-start-preserved
-loop-start-preserved c = (
-  omega arith,
-  c.loop-start.invariant.1 ∙ start_blank c.args.text.now c.loop-start.start (omega arith) (sym c.is_blank.ensures ∙ c.if-is_blank.true),
-)
-
-pub returns-else-is_blank : goal.returns-else-is_blank
-returns-else-is_blank c =
-    let s = c.args.text.now in
-    let e = sym c.is_blank.ensures ∙ c.if-is_blank.false in
-    part_from c.loop-start.start s ∙ sym (c.loop-start.invariant.1 ∙ start_nonblank s c.loop-start.start (omega arith) e)
 
 pub returns : goal.returns
 returns c =
-    let s = c.args.text.now in
-    part_from c.loop-start.start s ∙ sym (c.loop-start.invariant.1 ∙ start_done s c.loop-start.start (omega arith))
+    let t = c.args.text.now in
+    part_from c.unwrap_or-start.result t
+    ∙ trim_start_from t c.position.result c.unwrap_or-start.result
+    (IsFirst-from_position _ _ c.position.result (λ b. blank b ≡ false) (λ b. blank b ≡ true) c.position.ensures.ran
+    (YieldsList-from_slice t cc) (λ x q k. search (rules, tests)) (λ x q k. search (rules, tests)))
+    c.unwrap_or-start.ensures

@@ -25,18 +25,18 @@ returns-then-cursor c =
     let a = c.args in
     promised a.file.now a.cursor a.buffer.now a.buffer.now _ _ (next_none a.file.now a.cursor (length a.buffer.now) (omega arith) (from_outside a.file.now a.cursor c.if-cursor.true)) refl refl
 
-pub returns-then-file-at : goal.returns-then-file-at
-returns-then-file-at c =
+pub returns-then-file-start : goal.returns-then-file-start
+returns-then-file-start c =
     let a = c.args in
     let k = c.skip_comments-start in
-    promised a.file.now a.cursor a.buffer.now a.buffer.now _ _ (next_over a.file.now a.cursor k.result (length a.buffer.now) (omega arith) c.if-cursor.false k.ensures c.if-file-at.true) refl refl
+    promised a.file.now a.cursor a.buffer.now a.buffer.now _ _ (next_over a.file.now a.cursor k.result (length a.buffer.now) (omega arith) c.if-cursor.false k.ensures c.if-file-start.true) refl refl
 
-pub measure-m-requires : goal.measure-m-requires
-measure-m-requires c =
+pub measure-length-requires : goal.measure-length-requires
+measure-length-requires c =
     let a = c.args in
     let k = c.skip_comments-start in
     record {
-      at = record { inside = c.if-file-at.false; number = onward_number a.file.now a.cursor k.result c.if-cursor.false k.ensures.onward };
+      at = record { inside = c.if-file-start.false; number = onward_number a.file.now a.cursor k.result c.if-cursor.false k.ensures.onward };
       stands = k.ensures.stands;
     }
 
@@ -44,16 +44,16 @@ pub returns-then-length-gt4096 : goal.returns-then-length-gt4096
 returns-then-length-gt4096 c =
     let a = c.args in
     let k = c.skip_comments-start in
-    let m = c.measure-m in
+    let m = c.measure-length in
     promised a.file.now a.cursor a.buffer.now a.buffer.now _ _ (next_too_long a.file.now a.cursor k.result (length a.buffer.now) (omega arith) c.if-cursor.false k.ensures m.result m.ensures (omega arith)) refl refl
 
 pub copy_joined-requires : goal.copy_joined-requires
 copy_joined-requires c =
     let a = c.args in
     let k = c.skip_comments-start in
-    let m = c.measure-m in (
+    let m = c.measure-length in (
       record {
-        at = record { inside = c.if-file-at.false; number = onward_number a.file.now a.cursor k.result c.if-cursor.false k.ensures.onward };
+        at = record { inside = c.if-file-start.false; number = onward_number a.file.now a.cursor k.result c.if-cursor.false k.ensures.onward };
         stands = k.ensures.stands;
       },
       omega (arith, c.if-buffer-lt4096.false, c.if-length-gt4096.false, m.ensures.length_is, ap (λ (r : List Line). length (first_bytes r)) m.ensures.view),
@@ -63,7 +63,7 @@ pub returns : goal.returns
 returns c =
     let a = c.args in
     let k = c.skip_comments-start in
-    let m = c.measure-m in
+    let m = c.measure-length in
     promised a.file.now a.cursor a.buffer.now _ _ _
     (next-measured a.file.now a.cursor k.result (length a.buffer.now) (omega arith) c.if-cursor.false k.ensures m.result m.ensures (omega arith))
     (answer_measured a.file.now a.cursor k.result (length a.buffer.now) (omega arith) c.if-cursor.false k.ensures m.result m.ensures)

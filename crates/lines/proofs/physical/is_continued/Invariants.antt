@@ -1,14 +1,13 @@
--- `is_continued`: from the end on, the bytes passed are all backslashes, and the flag tells whether they are odd.
-use mathlib.Core.Path.{◌≡◌}
-use mathlib.Core.Bool.{true}
-use Prim.Native.Nat.{◌-◌, ◌≤◌}
-use lib.ListN.{length, drop}
-use Rattle.lines.specs.Bytes.{all}
-use Rattle.lines.specs.Lines.{backslash, odd}
+-- `is_continued`: the bytes passed, from the end on, are part of the closing run, and the flag tells whether they are odd.
+use Rattle.std.proofs.Common.{◌≡◌, ◌+◌, ◌-◌, ◌≤◌, length}
+use Rattle.lines.specs.Lines.{closing_run, odd}
 use Rattle.lines.proofs.physical.is_continued.Given as goal
 
-abbrev pub invariant-loop-n : goal.invariant-loop-n
-invariant-loop-n l = (l.n ≤ length l.line) × (all backslash (drop l.n l.line) ≡ true) × (l.odd ≡ odd (length l.line - l.n))
+abbrev pub invariant-loop-last : goal.invariant-loop-last
+invariant-loop-last l =
+    (length l.rest ≤ length l.line)
+    × (closing_run l.line ≡ closing_run l.rest + (length l.line - length l.rest))
+    × (l.odd ≡ odd (length l.line - length l.rest))
 
-abbrev pub decreases-loop-n : goal.decreases-loop-n
-decreases-loop-n l = l.n
+abbrev pub decreases-loop-last : goal.decreases-loop-last
+decreases-loop-last l = length l.rest
