@@ -1,5 +1,5 @@
 // The form of a single call.
-use lines::{Cursor, Next};
+use lines::{Cursor, LogicalLine};
 use listing::{print, show};
 use std::io;
 
@@ -24,14 +24,14 @@ pub fn call(
 // Prints the answer, and the first 8 bytes of the buffer.
 fn call_with(rt: &impl Print, file: &[u8], cursor: Cursor, buffer: &mut [u8]) -> io::Result<()> {
     match lines::next_line(file, cursor, buffer) {
-        Next::Found {
+        Ok(Some(LogicalLine {
             length,
             first,
             next,
-        } => println!(rt; "{first} {length}, then {} {}", next.offset, next.line),
-        Next::End => println!(rt; "end"),
-        Next::Refused(e) => listing::print_refusal(rt, e),
-    }?;
+        })) => println!(rt; "{first} {length}, then {} {}", next.offset, next.line)?,
+        Ok(None) => println!(rt; "end")?,
+        Err(e) => println!(rt; "{e}")?,
+    }
     print(rt, show::front(buffer, 8))?;
-    print!(rt; "\n")
+    println!(rt)
 }

@@ -10,7 +10,7 @@ pub mod tables;
 mod texts;
 
 pub use files::{cases, long_case, text_cases};
-use lines::{Check, Cursor, Error, Next};
+use lines::{Cursor, LogicalLine};
 use std::io;
 pub use stdin::{each_case, with_file};
 pub use texts::{lay_apart, print_run};
@@ -32,71 +32,37 @@ pub fn print_refused(rt: &impl Print, number: usize, place: usize) -> io::Result
     println!(rt; "refused {number} at {place}")
 }
 
-pub fn print_refusal(rt: &impl Print, e: Error) -> io::Result<()> {
-    print_refused(rt, e.number(), e.place())
-}
-
 // A line: its number, its length and its bytes, or the first 20 where it has more than `most`.
-fn print_line(
-    rt: &impl Print,
-    first: usize,
-    buffer: &[u8],
-    length: usize,
-    most: usize,
-) -> io::Result<()> {
-    print!(rt; "{first} {length}:")?;
-    if length <= most {
-        print(rt, show::front(buffer, length))?;
+fn print_line(rt: &impl Print, line: LogicalLine, buffer: &[u8], most: usize) -> io::Result<()> {
+    print!(rt; "{} {}:", line.first, line.length)?;
+    if line.length <= most {
+        print(rt, show::front(buffer, line.length))?;
     } else {
         print(rt, show::front(buffer, 20))?;
         print!(rt; "..")?;
     }
-    print!(rt; "\n")
+    println!(rt)
 }
 
-// Prints the next line, and answers where to go on; nothing behind the last line and behind a refusal, which is
-// printed.
-fn list_line(
-    rt: &impl Print,
-    file: &[u8],
-    cursor: Cursor,
-    buffer: &mut [u8],
-    most: usize,
-) -> io::Result<Option<Cursor>> {
-    match lines::next_line(file, cursor, buffer) {
-        Next::Found {
-            length,
-            first,
-            next,
-        } => {
-            print_line(rt, first, buffer, length, most)?;
-            Ok(Some(next))
-        }
-        Next::End => Ok(None),
-        Next::Refused(e) => {
-            print_refusal(rt, e)?;
-            Ok(None)
-        }
-    }
-}
-
-// 65,536 turns suffice: each line takes a byte or more of at most 65,535.
+// Prints the logical lines, up to one that is refused.
 fn list_lines(rt: &impl Print, file: &[u8], buffer: &mut [u8], most: usize) -> io::Result<()> {
     let mut cursor = Cursor::first();
-    for _ in 0..65536usize {
-        let Some(next) = list_line(rt, file, cursor, buffer, most)? else {
-            return Ok(());
-        };
-        cursor = next;
+    loop {
+        match lines::next_line(file, cursor, buffer) {
+            Ok(Some(line)) => {
+                print_line(rt, line, buffer, most)?;
+                cursor = line.next;
+            }
+            Ok(None) => return Ok(()),
+            Err(e) => return println!(rt; "{e}"),
+        }
     }
-    Ok(())
 }
 
 // Prints the refusal of a file, or its logical lines.
 pub fn list(rt: &impl Print, file: &[u8], most: usize) -> io::Result<()> {
-    let mut buffer = [0u8; 4096];
     match lines::check_file(file) {
-        Check::Accepted => list_lines(rt, file, &mut buffer, most),
-        Check::Refused(e) => print_refusal(rt, e),
+        Ok(()) => list_lines(rt, file, &mut [0u8; 4096], most),
+        Err(e) => println!(rt; "{e}"),
     }
 }

@@ -1,6 +1,6 @@
 // What standard input has: cases, or a file.
 use crate::notation::each_line;
-use crate::{print_refusal, show};
+use crate::show;
 use lines::Error;
 use std::io;
 
@@ -28,7 +28,7 @@ pub fn with_file<F: FnOnce(&[u8]) -> io::Result<()>>(
     let mut file = [0u8; 65536];
     match input::read_input(&mut rt.reader(), &mut file) {
         Ok(input::Input::Whole(length)) => run(show::front(&file, length)),
-        Ok(input::Input::Longer) => print_refusal(rt, Error::FileTooLong),
+        Ok(input::Input::Longer) => println!(rt; "{}", Error::FileTooLong),
         Err(e) => eprintln!(rt; "{program}: standard input: {e}"),
     }
 }
