@@ -1,5 +1,5 @@
 // The form of a single call.
-use lines::Cursor;
+use lines::{Cursor, LogicalLine};
 use listing::{print, show};
 use std::io;
 
@@ -24,16 +24,14 @@ pub fn call(
 // Prints the answer, and the first 8 bytes of the buffer.
 fn call_with(rt: &impl Print, file: &[u8], cursor: Cursor, buffer: &mut [u8]) -> io::Result<()> {
     match lines::next_line(file, cursor, buffer) {
-        Ok(Some(line)) => println!(rt;
-            "{} {}, then {} {}",
-            line.first,
-            line.length,
-            line.next.offset,
-            line.next.line
-        ),
-        Ok(None) => println!(rt; "end"),
-        Err(e) => println!(rt; "{e}"),
-    }?;
+        Ok(Some(LogicalLine {
+            length,
+            first,
+            next,
+        })) => println!(rt; "{first} {length}, then {} {}", next.offset, next.line)?,
+        Ok(None) => println!(rt; "end")?,
+        Err(e) => println!(rt; "{e}")?,
+    }
     print(rt, show::front(buffer, 8))?;
-    print!(rt; "\n")
+    println!(rt)
 }

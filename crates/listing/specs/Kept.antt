@@ -1,5 +1,5 @@
 -- What a call left of a buffer that was full of one value.
-use Rattle.std.specs.Prelude.{◌≡◌, ℕ, Bool, ◌&&◌, List, [], ◌∷◌, drop, eqb, refl}
+use Rattle.std.specs.Prelude.{◌≡◌, ℕ, Bool, ◌&&◌, [], ◌∷◌, drop, eqb, refl}
 use Rattle.std.specs.List.{list_all}
 use Rattle.std.proofs.Common.{ap}
 use Rattle.lines.specs.Bytes.{Bytes, all}

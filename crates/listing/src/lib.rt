@@ -33,12 +33,7 @@ pub fn print_refused(rt: &impl Print, number: usize, place: usize) -> io::Result
 }
 
 // A line: its number, its length and its bytes, or the first 20 where it has more than `most`.
-fn print_line(
-    rt: &impl Print,
-    line: LogicalLine,
-    buffer: &[u8],
-    most: usize,
-) -> io::Result<()> {
+fn print_line(rt: &impl Print, line: LogicalLine, buffer: &[u8], most: usize) -> io::Result<()> {
     print!(rt; "{} {}:", line.first, line.length)?;
     if line.length <= most {
         print(rt, show::front(buffer, line.length))?;
@@ -46,48 +41,28 @@ fn print_line(
         print(rt, show::front(buffer, 20))?;
         print!(rt; "..")?;
     }
-    print!(rt; "\n")
+    println!(rt)
 }
 
-// Prints the next line, and answers where to go on; nothing behind the last line and behind a refusal, which is
-// printed.
-fn list_line(
-    rt: &impl Print,
-    file: &[u8],
-    cursor: Cursor,
-    buffer: &mut [u8],
-    most: usize,
-) -> io::Result<Option<Cursor>> {
-    match lines::next_line(file, cursor, buffer) {
-        Ok(Some(line)) => {
-            print_line(rt, line, buffer, most)?;
-            Ok(Some(line.next))
-        }
-        Ok(None) => Ok(None),
-        Err(e) => {
-            println!(rt; "{e}")?;
-            Ok(None)
-        }
-    }
-}
-
-// 65,536 turns suffice: each line takes a byte or more of at most 65,535.
+// Prints the logical lines, up to one that is refused.
 fn list_lines(rt: &impl Print, file: &[u8], buffer: &mut [u8], most: usize) -> io::Result<()> {
     let mut cursor = Cursor::first();
-    for _ in 0..65536usize {
-        let Some(next) = list_line(rt, file, cursor, buffer, most)? else {
-            return Ok(());
-        };
-        cursor = next;
+    loop {
+        match lines::next_line(file, cursor, buffer) {
+            Ok(Some(line)) => {
+                print_line(rt, line, buffer, most)?;
+                cursor = line.next;
+            }
+            Ok(None) => return Ok(()),
+            Err(e) => return println!(rt; "{e}"),
+        }
     }
-    Ok(())
 }
 
 // Prints the refusal of a file, or its logical lines.
 pub fn list(rt: &impl Print, file: &[u8], most: usize) -> io::Result<()> {
-    let mut buffer = [0u8; 4096];
     match lines::check_file(file) {
-        Ok(()) => list_lines(rt, file, &mut buffer, most),
+        Ok(()) => list_lines(rt, file, &mut [0u8; 4096], most),
         Err(e) => println!(rt; "{e}"),
     }
 }

@@ -1,5 +1,5 @@
 -- `line_length`: `position` finds the first LF.
-use Rattle.std.proofs.Common.{◌≡◌, ℕ, List, [], ◌∷◌, eqb, refl, sym, ◌∙◌, ap, rules, tests, ◌+◌, add-one}
+use Rattle.std.proofs.Common.{◌≡◌, ℕ, [], ◌∷◌, refl, sym, ◌∙◌, rules, tests, ◌+◌, add-one}
 use Rattle.std.proofs.lemmas.Iterator.{IsFirst-from_position, index_from_first, YieldsList-from_slice}
 use borrow.Author.Tests.{eq-eqb, ne_eqb}
 use Rattle.lines.specs.Bytes.{Bytes}
