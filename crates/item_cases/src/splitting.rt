@@ -1,5 +1,5 @@
 // A text is split.
-use items::SplitAnswer;
+use items::Counts;
 use listing::{notation, print, print_number, print_refused, show};
 use std::io;
 
@@ -38,8 +38,8 @@ fn split_into(
     ends: &mut [usize],
 ) -> io::Result<()> {
     match items::split(text, bytes, ends) {
-        SplitAnswer::Accepted { count, length } => print_items(rt, bytes, length, ends, count),
-        SplitAnswer::Refused(e) => {
+        Ok(counts) => print_items(rt, bytes, ends, counts),
+        Err(e) => {
             print(rt, b"all ")?;
             show::print_kept(
                 rt,
@@ -50,23 +50,17 @@ fn split_into(
     }
 }
 
-fn print_items(
-    rt: &impl Print,
-    bytes: &[u8],
-    length: usize,
-    ends: &[usize],
-    count: usize,
-) -> io::Result<()> {
+fn print_items(rt: &impl Print, bytes: &[u8], ends: &[usize], counts: Counts) -> io::Result<()> {
     print(rt, b"rest ")?;
     show::print_kept(
         rt,
-        show::bytes_kept(bytes, length) && show::numbers_kept(ends, count),
+        show::bytes_kept(bytes, counts.bytes) && show::numbers_kept(ends, counts.items),
     )?;
-    print_number(rt, count)?;
+    print_number(rt, counts.items)?;
     print(rt, b" items, ")?;
-    print_number(rt, length)?;
+    print_number(rt, counts.bytes)?;
     print(rt, b" bytes: ")?;
-    show::print_numbers(rt, show::front_numbers(ends, count))?;
-    show::print_bytes(rt, show::front(bytes, length))?;
+    show::print_numbers(rt, show::front_numbers(ends, counts.items))?;
+    show::print_bytes(rt, show::front(bytes, counts.bytes))?;
     print(rt, b"\n")
 }
