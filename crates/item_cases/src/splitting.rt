@@ -1,5 +1,5 @@
 // A text is split.
-use items::SplitAnswer;
+use items::Counts;
 use listing::{notation, print, print_number, print_refused, show};
 use std::io;
 
@@ -39,8 +39,8 @@ fn split_into(
     ends: &mut [usize],
 ) -> io::Result<()> {
     match items::split(text, bytes, ends) {
-        SplitAnswer::Accepted { count, length } => print_items(rt, bytes, length, ends, count),
-        SplitAnswer::Refused(e) => {
+        Ok(counts) => print_items(rt, bytes, ends, counts),
+        Err(e) => {
             print(rt, b"all ")?;
             show::print_kept(rt, show::is_kept(bytes, 0) && show::is_kept(ends, 0))?;
             print_refused(rt, e.number(), e.place())
@@ -48,23 +48,17 @@ fn split_into(
     }
 }
 
-fn print_items(
-    rt: &impl Print,
-    bytes: &[u8],
-    length: usize,
-    ends: &[usize],
-    count: usize,
-) -> io::Result<()> {
+fn print_items(rt: &impl Print, bytes: &[u8], ends: &[usize], counts: Counts) -> io::Result<()> {
     print(rt, b"rest ")?;
     show::print_kept(
         rt,
-        show::is_kept(bytes, length) && show::is_kept(ends, count),
+        show::is_kept(bytes, counts.bytes) && show::is_kept(ends, counts.items),
     )?;
-    print_number(rt, count)?;
+    print_number(rt, counts.items)?;
     print(rt, b" items, ")?;
-    print_number(rt, length)?;
+    print_number(rt, counts.bytes)?;
     print(rt, b" bytes: ")?;
-    show::print_numbers(rt, show::front(ends, count))?;
-    show::print_bytes(rt, show::front(bytes, length))?;
+    show::print_numbers(rt, show::front(ends, counts.items))?;
+    show::print_bytes(rt, show::front(bytes, counts.bytes))?;
     print(rt, b"\n")
 }

@@ -7,7 +7,7 @@ use Rattle.lines.specs.Buffers.{filled}
 use Rattle.items.specs.Split.{bytes_of, ends_from, split_in}
 use Rattle.items.specs.declared.error.Error.{Error}
 use Rattle.items.specs.declared.error.Error.TheVariants.{ShortBuffer, TextTooLong, ForbiddenByte, MisplacedQuote, OpenQuote, EscapeForm, EscapeValue, TooManyItems, NulByte, BadEnds}
-pub use Rattle.items.specs.declared.splitter.Counts.{Counts}
+use Rattle.items.specs.declared.splitter.Counts.{Counts}
 
 -- the refusals 1 and 20 to 28: number
 abbrev pub number_of : Error → ℕ

@@ -8,7 +8,7 @@ use Rattle.items.specs.Pieces.{pieces_from}
 use Rattle.items.specs.Pieces as pieces
 use Rattle.items.specs.Split.{item, end, refusal, with_bytes, bare_item, quoted_item, closed_item, bytes_of, ends_from}
 use Rattle.items.specs.Split as split
-use Rattle.items.specs.Answers.{number_of, place_of, error_means, Counts}
+use Rattle.items.specs.Answers.{number_of, place_of, error_means}
 use Rattle.items.specs.declared.error.Error.{Error}
 use Rattle.items.specs.declared.few.Few.{Few}
 use Rattle.items.specs.declared.escapes.Escape.{Escape}
@@ -16,6 +16,7 @@ use Rattle.items.specs.declared.pieces.Mode.{Mode}
 use Rattle.items.specs.declared.pieces.Mode.TheVariants.{Bare, Quoted}
 use Rattle.items.specs.declared.pieces.Piece.{Piece}
 use Rattle.items.specs.declared.pieces.Piece.TheVariants.{Bytes as PieceBytes, End as PieceEnd}
+use Rattle.items.specs.declared.splitter.Counts.{Counts}
 use Rattle.items.specs.declared.splitter.Item.{Item}
 
 -- ---- escapes

@@ -10,12 +10,6 @@ pub returns-then-count-eq0 : goal.returns-then-count-eq0
 returns-then-count-eq0 c =
     rw (following_first _ _ c.if-count-eq0.true) c.put_item.ensures
 
-pub put_item-requires-2 : goal.put_item-requires-2
-put_item-requires-2 c = simp length-set (omega arith)
-
-pub shape_of-text : goal.shape_of-text
-shape_of-text c = c.put_item-2.auto.text ∙ simp length-set
-
 pub returns : goal.returns
 returns c =
     puts_behind _ _ _ _ _ _ c.if-count-eq0.false (omega arith) c.put_item-2.ensures
