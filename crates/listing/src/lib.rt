@@ -6,6 +6,7 @@ mod cases;
 pub mod notation;
 pub mod show;
 pub mod tables;
+pub mod text_cases;
 mod texts;
 
 pub use cases::{case, long_case, text_case};
