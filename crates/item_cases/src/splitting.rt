@@ -1,6 +1,6 @@
 // A text is split.
 use items::Counts;
-use listing::{notation, print, print_number, print_refused, show};
+use listing::{notation, print, show};
 use std::io;
 
 // What stands behind `split ` in a line.
@@ -45,7 +45,7 @@ fn split_into(
                 rt,
                 show::bytes_kept(bytes, 0) && show::numbers_kept(ends, 0),
             )?;
-            print_refused(rt, e.number(), e.place())
+            println!(rt; "{e}")
         }
     }
 }
@@ -56,10 +56,7 @@ fn print_items(rt: &impl Print, bytes: &[u8], ends: &[usize], counts: Counts) ->
         rt,
         show::bytes_kept(bytes, counts.bytes) && show::numbers_kept(ends, counts.items),
     )?;
-    print_number(rt, counts.items)?;
-    print(rt, b" items, ")?;
-    print_number(rt, counts.bytes)?;
-    print(rt, b" bytes: ")?;
+    print!(rt; "{} items, {} bytes: ", counts.items, counts.bytes)?;
     show::print_numbers(rt, show::front_numbers(ends, counts.items))?;
     show::print_bytes(rt, show::front(bytes, counts.bytes))?;
     print(rt, b"\n")
