@@ -1,6 +1,6 @@
 // A text is split.
 use items::Counts;
-use listing::{notation, print, print_number, print_refused, show};
+use listing::{notation, print, show};
 use std::io;
 
 // What stands behind `split ` in a line.
@@ -42,8 +42,11 @@ fn split_into(
         Ok(counts) => print_items(rt, bytes, ends, counts),
         Err(e) => {
             print(rt, b"all ")?;
-            show::print_kept(rt, show::is_kept(bytes, 0) && show::is_kept(ends, 0))?;
-            print_refused(rt, e.number(), e.place())
+            show::print_kept(
+                rt,
+                show::is_kept(bytes, 0) && show::is_kept(ends, 0),
+            )?;
+            println!(rt; "{e}")
         }
     }
 }
@@ -54,10 +57,7 @@ fn print_items(rt: &impl Print, bytes: &[u8], ends: &[usize], counts: Counts) ->
         rt,
         show::is_kept(bytes, counts.bytes) && show::is_kept(ends, counts.items),
     )?;
-    print_number(rt, counts.items)?;
-    print(rt, b" items, ")?;
-    print_number(rt, counts.bytes)?;
-    print(rt, b" bytes: ")?;
+    print!(rt; "{} items, {} bytes: ", counts.items, counts.bytes)?;
     show::print_numbers(rt, show::front(ends, counts.items))?;
     show::print_bytes(rt, show::front(bytes, counts.bytes))?;
     print(rt, b"\n")

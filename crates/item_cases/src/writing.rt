@@ -1,5 +1,5 @@
 // Items are written, and their text is split again.
-use listing::{notation, print, print_number, print_refused, show};
+use listing::{notation, print, show};
 use std::io;
 
 // What stands behind `write ` in a line.
@@ -30,8 +30,7 @@ fn write_into(rt: &impl Print, bytes: &[u8], ends: &[usize], out: &mut [u8]) -> 
         Ok(length) => {
             print(rt, b"rest ")?;
             show::print_kept(rt, show::is_kept(out, length))?;
-            print_number(rt, length)?;
-            print(rt, b" bytes: ")?;
+            print!(rt; "{length} bytes: ")?;
             let text = show::front(out, length);
             show::print_bytes(rt, text)?;
             split_again(rt, text, bytes, ends)
@@ -39,7 +38,7 @@ fn write_into(rt: &impl Print, bytes: &[u8], ends: &[usize], out: &mut [u8]) -> 
         Err(e) => {
             print(rt, b"all ")?;
             show::print_kept(rt, show::is_kept(out, 0))?;
-            print_refused(rt, e.number(), e.place())
+            println!(rt; "{e}")
         }
     }
 }

@@ -1,23 +1,23 @@
 -- Digits read from left to right: with one digit more the number is multiplied by the base, and the digit added.
 -- A number of up to eight digits fits 64 bits.
-use mathlib.Core.Path.{◌≡◌, refl, sym, ap, ◌∙◌}
-use Prim.Native.Nat.{ℕ, zero, suc, ◌+◌, ◌*◌, ◌^◌, ◌≤◌, ◌<◌}
+use mathlib.Core.Path.{◌≡◌, sym, ap, ◌∙◌}
+use Prim.Native.Nat.{ℕ, suc, ◌+◌, ◌*◌, ◌^◌, ◌≤◌, ◌<◌}
 use native.Mathlib.Nat.{pow-zero, mul-one, pow-suc, mul_assoc, add-mul, mul-le-mul_left, pow-le-pow_right}
 use native.Mathlib.Numerals.{add-one}
 use native.Mathlib.Omega.{arith}
-use mathlib.Core.Bool.{Bool, true, false}
-use Rattle.std.specs.Prelude.{None, Some}
+use mathlib.Core.Bool.{true}
+use Rattle.std.specs.Prelude.{Some}
 use mathlib.Core.List.{[], ◌∷◌, ◌++◌}
 use lib.Arith.{digits_lt}
-use lib.Dec.{lit<, leb}
+use lib.Dec.{lit<}
 use lib.ListN.{length, take, get_or, length-append}
 use lib.Seq.{take-suc, length-take-le}
 use Rattle.std.proofs.lemmas.List.{get_or-take}
 use Rattle.std.proofs.lemmas.Option.{cond_some}
-use borrow.Author.Tests.{ltb-true, le-leb}
+use borrow.Author.Tests.{ltb-true}
 use Rattle.lines.specs.Bytes.{Bytes, all}
-use Rattle.lines.proofs.Bools.{by_cases, clash, all_append, and_false}
-use Rattle.items.specs.Escapes.{digit_value, digit_of, value, number}
+use Rattle.lines.proofs.Bools.{all_append}
+use Rattle.items.specs.Escapes.{digit_value, digit_of, value}
 use Rattle.items.specs.Steps.{digit_in}
 
 -- m · b^(n+1) is b times m · b^n

@@ -1,20 +1,19 @@
 -- Escapes, as the code reads them: what one takes is there, and it gives at most one byte more than it takes behind its
 -- backslash.
-use mathlib.Core.Path.{◌≡◌, refl, sym, ap, subst, ◌∙◌}
-use Prim.Native.Nat.{ℕ, suc, ◌+◌, ◌≤◌, ◌<◌}
+use mathlib.Core.Path.{◌≡◌, refl}
+use Prim.Native.Nat.{ℕ, suc, ◌+◌, ◌≤◌}
 use native.Mathlib.Omega.{arith}
-use mathlib.Core.Bool.{Bool, true, false, not, cond}
+use mathlib.Core.Bool.{Bool, true, false, cond}
 use Rattle.std.specs.Prelude.{Option, None, Some}
 use mathlib.Core.List.{[], ◌∷◌}
 use lib.Dec.{eqb, leb}
-use lib.ListN.{length, drop, get_or, drop_of_length-le}
-use borrow.Author.Tests.{leb-true, le-leb, lt-leb, ne_eqb}
-use Rattle.lines.specs.Bytes.{Bytes, between}
+use lib.ListN.{length}
+use borrow.Author.Tests.{leb-true}
+use Rattle.lines.specs.Bytes.{Bytes}
 use Rattle.lines.specs.Utf8.{encoded}
 use Rattle.lines.specs.Answers.{Outcome, accepted, refused}
-use Rattle.lines.proofs.Bools.{by_cases, and_left, and_right}
-use Rattle.lines.proofs.Slices.{opened}
-use Rattle.items.specs.Escapes.{number, Escaped, code_point, numeric, byte_escape, point_escape, byte_of, letters, digit_escape, letter_escape, escape}
+use Rattle.lines.proofs.Bools.{by_cases}
+use Rattle.items.specs.Escapes.{number, Escaped, numeric, byte_of, letters, digit_escape, letter_escape, escape}
 
 -- a number of n digits takes n bytes
 number-there : (base n : ℕ) (t : Bytes) (v : ℕ) → number base n t ≡ Some v → n ≤ length t

@@ -13,8 +13,8 @@ use Rattle.lines.specs.Buffers.{put}
 use Rattle.lines.proofs.Buffers.{front_copied}
 use Rattle.items.specs.Pieces.{pieces}
 use Rattle.items.specs.Split.{forbidden, items_of, split_of, split_in, bytes_of, ends_from}
-use Rattle.items.specs.Answers.{number_of, place_of, split_means, counted, bytes_after, ends_after, ItemsLeft, SplitLeaves, Splits}
-use Rattle.items.specs.Steps.{AllRead, ReadAll}
+use Rattle.items.specs.Answers.{number_of, place_of, counted, bytes_after, ends_after, ItemsLeft, SplitLeaves, Splits}
+use Rattle.items.specs.Steps.{AllRead}
 use Rattle.items.specs.declared.error.Error.{Error}
 use Rattle.items.specs.declared.error.Error.TheVariants.{ShortBuffer, TextTooLong, ForbiddenByte}
 use Rattle.items.specs.declared.splitter.Counts.{Counts}

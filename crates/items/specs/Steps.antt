@@ -1,5 +1,5 @@
 -- What the functions inside the crate promise: escapes, and the steps of reading an item into a buffer.
-use Rattle.std.specs.Prelude.{◌≡◌, ℕ, ◌+◌, ◌≤◌, ◌<◌, true, false, cond, List, [], ◌∷◌, length, take, drop, get_or, Option, Some, None, Result, Ok, Err}
+use Rattle.std.specs.Prelude.{◌≡◌, ℕ, ◌+◌, ◌≤◌, ◌<◌, true, false, cond, List, [], length, take, drop, get_or, Option, Some, None, Result, Ok, Err}
 use Rattle.lines.specs.Bytes.{Bytes, blank}
 use Rattle.lines.specs.Answers.{Outcome, accepted}
 use Rattle.lines.specs.Buffers.{put, filled}

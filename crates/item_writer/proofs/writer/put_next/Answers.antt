@@ -1,7 +1,5 @@
 -- `put_next` puts a space before the item where others stand before it.
-use mathlib.Core.Path.{◌∙◌}
 use native.Mathlib.Omega.{arith}
-use lib.ListN.{length-set}
 use Rattle.item_writer.proofs.Written.{following_first}
 use Rattle.item_writer.proofs.Items.{puts_behind}
 use Rattle.item_writer.proofs.writer.put_next.Goals as goal

@@ -1,11 +1,7 @@
 -- `write`: the tests in their order, each refusal by `Verdict`, and then the text.
-use mathlib.Core.Path.{◌≡◌, sym, ap, ◌∙◌}
-use Prim.Native.Nat.{ℕ}
+use mathlib.Core.Path.{sym, ◌∙◌}
 use native.Mathlib.Omega.{arith}
-use mathlib.Core.Bool.{true, false}
 use lib.Seq.{length-take-le}
-use Rattle.lines.specs.Bytes.{any}
-use Rattle.items.specs.Write.{ends_fit, nul, last_end}
 use Rattle.items.proofs.Laws.{cut_is_laid_again}
 use Rattle.item_writer.proofs.Verdict.{has_nul, short_buffer, too_many, unfit_ends, nul_byte, long_bytes, long_text, text_copied}
 use Rattle.item_writer.proofs.writer.write.Goals as goal

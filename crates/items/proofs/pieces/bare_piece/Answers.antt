@@ -1,6 +1,6 @@
 -- `bare_piece`: by the byte that stands there.
 use mathlib.Core.Path.{sym, ◌∙◌}
-use borrow.Author.Tests.{eq-eqb, ne_eqb}
+use borrow.Author.Tests.{ne_eqb}
 use Rattle.items.specs.declared.pieces.Mode.TheVariants.{Bare}
 use Rattle.items.proofs.PieceSteps.{bare_blank, bare_quote, bare_byte_lem}
 use Rattle.items.proofs.pieces.bare_piece.Goals as goal
