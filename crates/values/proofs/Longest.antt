@@ -1,10 +1,10 @@
 -- The longest run of bytes that pass, at the start of a text.
 use mathlib.Core.Path.{◌≡◌, refl, sym, ap, ◌∙◌}
-use Prim.Native.Nat.{ℕ, suc, ◌≤◌, ◌<◌}
+use Prim.Native.Nat.{ℕ, suc, ◌<◌}
 use native.Mathlib.Omega.{arith}
 use mathlib.Core.Bool.{Bool, true, false}
 use mathlib.Core.List.{[], ◌∷◌, ◌++◌, append-nil}
-use lib.ListN.{length, take, drop, get_or}
+use lib.ListN.{length, drop, get_or}
 use lib.Seq.{drop-append_seam}
 use Rattle.lines.specs.Bytes.{Bytes, all}
 use Rattle.lines.proofs.Bools.{by_cases, and_left, and_right, both}
@@ -15,16 +15,6 @@ pub longest-all : (p : ℕ → Bool) (t : Bytes) → all p (longest p t) ≡ tru
 unfolding longest all
 longest-all p [] = refl
 longest-all p (b ∷ bs) = by_cases (p b) (λ e. rw (e, e) (longest-all p bs)) (λ e. rw e)
-
-pub longest-inside : (p : ℕ → Bool) (t : Bytes) → length (longest p t) ≤ length t
-unfolding longest
-longest-inside p [] = omega arith
-longest-inside p (b ∷ bs) = by_cases (p b) (λ e. rw e (omega (arith, longest-inside p bs))) (λ e. rw e (omega arith))
-
-pub longest-take : (p : ℕ → Bool) (t : Bytes) → take (length (longest p t)) t ≡ longest p t
-unfolding longest
-longest-take p [] = refl
-longest-take p (b ∷ bs) = by_cases (p b) (λ e. rw e (ap (λ (l : Bytes). b ∷ l) (longest-take p bs))) (λ e. rw e)
 
 pub longest_more : (p : ℕ → Bool) (b : ℕ) (bs : Bytes) → p b ≡ true → longest p (b ∷ bs) ≡ b ∷ longest p bs
 unfolding longest

@@ -1,13 +1,13 @@
 -- One part at the start of a text that starts with no blank: digits, blanks, letters, blanks. Where there are
 -- no digits, or the letters name no unit, the text has not the form.
 use mathlib.Core.Path.{◌≡◌, refl, sym, ap, ◌∙◌}
-use Prim.Native.Nat.{ℕ, ◌+◌, ◌-◌, ◌*◌, ◌≤◌, ◌<◌}
+use Prim.Native.Nat.{ℕ, ◌*◌, ◌<◌}
 use native.Mathlib.Omega.{arith}
 use mathlib.Core.Bool.{Bool, true, false}
 use mathlib.Core.Option.{Option, none, some}
-use mathlib.Core.List.{List, [], ◌∷◌, ◌++◌}
+use mathlib.Core.List.{List, [], ◌∷◌}
 use lib.ListN.{length, drop, length-append}
-use Rattle.lines.specs.Bytes.{Bytes, blank, digit, letter, all}
+use Rattle.lines.specs.Bytes.{Bytes, digit, letter, all}
 use Rattle.lines.specs.Trim.{trim_start}
 use Rattle.lines.proofs.Bools.{by_cases, is_false, impossible}
 use Rattle.lines.proofs.Trimming.{trim_start_idem, length-trim_start}

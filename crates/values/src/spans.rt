@@ -55,15 +55,16 @@ fn number(digits: &[u8]) -> Amount
     ensures { Stands result (decimal digits.now) }
 {
     let mut n = 0u64;
-    for b in digits {
-        n = n.checked_mul(10)?.checked_add(u64::from(*b - b'0'))?;
+    for &b in digits {
+        n = n.checked_mul(10)?.checked_add(u64::from(b - b'0'))?;
     }
     Some(n)
 }
 
 // ---- parts
 
-// The bytes at the start of a text that pass, as many as there are, and the rest.
+// The bytes at the start of a text that pass, as many as there are, and the rest. The check takes no function of
+// another crate as a value: its callers pass closures that call one.
 fn split_start<F: Fn(u8) -> bool>(text: &[u8], passes: F) -> (&[u8], &[u8])
     requires { F.IsAlwaysCallable passes }
     ensures { SplitsAt (F.post passes) text.now result.0.now result.1.now }

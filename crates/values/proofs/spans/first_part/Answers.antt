@@ -1,19 +1,15 @@
 -- `first_part` cuts off the digits and then the letters, with the blanks behind each (`Parts`).
-use mathlib.Core.Path.{◌≡◌, refl, sym, ap, subst, ◌∙◌}
-use Prim.Native.Nat.{ℕ}
-use mathlib.Core.Bool.{Bool}
+use mathlib.Core.Path.{◌≡◌, refl, sym, ap, ◌∙◌}
 use lib.ListN.{length}
 use native.Mathlib.Omega.{arith}
 use Rattle.std.proofs.Common.{rules, Some, None}
-use Rattle.std.specs.Prelude.{Option}
 use Rattle.std.proofs.lemmas.Bool.Decides.{nat_tests}
 use Rattle.std.proofs.lemmas.Result.{err_from_is_err_and}
-use Rattle.lines.specs.Bytes.{Bytes, digit, letter}
+use Rattle.lines.specs.Bytes.{digit, letter}
 use Rattle.lines.specs.Trim.{trim_start}
 use Rattle.values.proofs.Longest.{Run, run_found}
 use Rattle.values.proofs.Parts.{no_number, part_wrong, part_right}
 use Rattle.values.proofs.Units.{scale_positive}
-use Rattle.values.specs.Spans.{scale_in, units}
 use Rattle.values.specs.Steps.{scale_means}
 use Rattle.values.proofs.spans.first_part.Goals as goal
 use Rattle.values.proofs.spans.first_part.Goals.{After-split_start, After-split_start-2}

@@ -1,13 +1,10 @@
 -- `span` answers by what it finds in the trimmed text: nothing, digits alone, or parts (`Verdict`).
-use mathlib.Core.Path.{◌≡◌, sym, ap, subst, ◌∙◌}
-use Prim.Native.Nat.{◌<◌}
-use lib.ListN.{length}
+use mathlib.Core.Path.{sym, ◌∙◌}
 use native.Mathlib.Omega.{arith}
 use Rattle.std.proofs.Common.{rules}
 use Rattle.std.proofs.lemmas.Bool.Decides.{nat_tests}
 use Rattle.std.proofs.lemmas.Result.{err_from_is_err_and}
 use Rattle.lines.specs.Bytes.{digit}
-use Rattle.lines.specs.Trim.{trim_start, trimmed}
 use Rattle.lines.proofs.Trimming.{trimmed_start}
 use Rattle.values.proofs.Longest.{Run, run_found}
 use Rattle.values.proofs.Verdict.{span_empty, span_seconds, span_total, span_wrong, judged}

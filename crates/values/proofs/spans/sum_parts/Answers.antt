@@ -1,8 +1,6 @@
 -- `sum_parts` reads one part after the other. The invariant: the parts read so far stand in front of those of
 -- what is left (`Walked`).
-use mathlib.Core.Path.{sym}
 use native.Mathlib.Omega.{arith}
-use borrow.Author.Tests.{eqb-true}
 use Rattle.std.proofs.lemmas.Bool.Decides.{nat_tests}
 use Rattle.std.proofs.lemmas.Result.{err_from_is_err_and}
 use Rattle.values.proofs.Sums.{walk_start, walk_more, walk_wrong, walk_done}
