@@ -5,7 +5,6 @@ ghost use Rattle.claims.specs.LookUps.{Gets};
 ghost use Rattle.claims.specs.Steps.{Asks};
 
 use lookup::{Lent, Which};
-use table::ReadAnswer;
 
 #[derive(Clone, Copy)]
 pub enum LookUpAnswer {
@@ -58,20 +57,16 @@ pub fn read_then_find(
     let mut sections = [0usize; 128];
     let mut entries = [0usize; 2560];
     match table::read(file, &mut text, &mut sections, &mut entries) {
-        ReadAnswer::Accepted {
-            text: _,
-            sections: s,
-            entries: k,
-        } => {
+        Ok(counts) => {
             let lent = Lent {
                 text: &text,
                 sections: &sections,
-                section_count: s,
+                section_count: counts.sections,
                 entries: &entries,
-                entry_count: k,
+                entry_count: counts.entries,
             };
             find_then_value(lent, section, key, which, out)
         }
-        ReadAnswer::Refused(e) => LookUpAnswer::NotRead(e),
+        Err(e) => LookUpAnswer::NotRead(e),
     }
 }

@@ -6,7 +6,6 @@ use listing::{print, print_refused, show};
 use lookup::{Lent, Which};
 use std::env::{Env, FillError};
 use std::io;
-use table::ReadAnswer;
 
 fn main(rt: HostRuntime) -> io::Result<()> {
     let mut section = [0u8; 65536];
@@ -68,21 +67,17 @@ fn answer_from(
     entries: &mut [usize],
 ) -> io::Result<()> {
     match table::read(file, text, sections, entries) {
-        ReadAnswer::Accepted {
-            text: _,
-            sections: section_count,
-            entries: entry_count,
-        } => {
+        Ok(counts) => {
             let lent = Lent {
                 text,
                 sections,
-                section_count,
+                section_count: counts.sections,
                 entries,
-                entry_count,
+                entry_count: counts.entries,
             };
             print_value(rt, lent, section, key)
         }
-        ReadAnswer::Refused(e) => print_refused(rt, e.number(), e.place()),
+        Err(e) => print_refused(rt, e.number(), e.place()),
     }
 }
 

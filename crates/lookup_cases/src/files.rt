@@ -3,7 +3,6 @@ use crate::answers;
 use listing::{notation, print, print_refused, show};
 use lookup::{Lent, Which};
 use std::io;
-use table::ReadAnswer;
 
 // The longest file.
 const FILE: usize = 65600;
@@ -52,24 +51,20 @@ fn read_into(
     entries: &mut [usize],
 ) -> io::Result<()> {
     match table::read(file, text, sections, entries) {
-        ReadAnswer::Accepted {
-            text: _,
-            sections: section_count,
-            entries: entry_count,
-        } => {
+        Ok(counts) => {
             let lent = Lent {
                 text,
                 sections,
-                section_count,
+                section_count: counts.sections,
                 entries,
-                entry_count,
+                entry_count: counts.entries,
             };
             answers::find(rt, lent, which, section, key, |rt, lent, index| {
                 print(rt, b", ")?;
                 answers::value(rt, lent, index)
             })
         }
-        ReadAnswer::Refused(e) => {
+        Err(e) => {
             print(rt, b"not read, ")?;
             print_refused(rt, e.number(), e.place())
         }

@@ -1,5 +1,6 @@
 -- Lines read one after another. What the loop keeps: the buffers hold a table, and the lines from the cursor on bring
 -- to it what all lines bring to the empty one.
+use Rattle.std.specs.Prelude.{Ok, Err, Result, Option as CodeOption, Some, None}
 use Rattle.std.proofs.Common.{◌≡◌, ℕ, ◌≤◌, List, length, sym, refl, ap, ◌∙◌, subst, arith}
 use Rattle.lines.specs.Bytes.{Bytes}
 use Rattle.lines.specs.Lines.{logical}
@@ -10,13 +11,11 @@ use Rattle.table.specs.Tables.{Table, empty_table, names, run}
 use Rattle.table.specs.Contents.{text_of, records_from}
 use Rattle.table.specs.Answers.{error_means}
 use Rattle.table.specs.Laws.{Sized}
-use Rattle.table.specs.Steps.{state_of, Holds, LineRead, TurnTaken, answer_of, ReadInto}
+use Rattle.table.specs.Steps.{state_of, Holds, LineRead, TurnTaken, counts_in, ReadInto}
 use Rattle.table.specs.declared.error.Error.{Error}
+use Rattle.table.specs.declared.state.Counts.{Counts}
 use Rattle.table.specs.declared.state.State.{State}
 use Rattle.table.specs.declared.reader.Progress.{Progress}
-use Rattle.table.specs.declared.reader.Turn.{Turn}
-use Rattle.table.specs.declared.reader.Turn.TheVariants.{Go, End, Refused}
-use Rattle.table.specs.declared.reader.ReadAnswer.{ReadAnswer}
 use Rattle.table.proofs.Sizes.{step-sized, sized_more, empty_sized}
 use Rattle.table.proofs.ReadingLines.{run_nil, run_more}
 
@@ -58,12 +57,12 @@ module _ (f d : Bytes) (e g : List ℕ) where
     pub sections_below : p.state.sections ≤ 64
     sections_below = omega (arith, ap (λ (z : State). z.sections) r.holds.state, r.sized.few_sections)
 
-    module _ (text' : Bytes) (sections' entries' : List ℕ) (t : Turn)
+    module _ (text' : Bytes) (sections' entries' : List ℕ) (t : Result (CodeOption Progress) Error)
         (k : TurnTaken f p r.table d text' e sections' g entries' t) where
-      pub line_read : (q : Progress) → t ≡ Go q → LineRead f p r.table d text' e sections' g entries' q
+      pub line_read : (q : Progress) → t ≡ Ok (Some q) → LineRead f p r.table d text' e sections' g entries' q
       line_read q w = subst (TurnTaken f p r.table d text' e sections' g entries') w k
 
-      pub reading_more : (q : Progress) → t ≡ Go q → length text' ≡ length text → length sections' ≡ length sections → length entries' ≡ length entries
+      pub reading_more : (q : Progress) → t ≡ Ok (Some q) → length text' ≡ length text → length sections' ≡ length sections → length entries' ≡ length entries
           → Reading f d e g text' sections' entries' q
       reading_more q w x y z =
           let l = line_read q w in
@@ -78,21 +77,18 @@ module _ (f d : Bytes) (e g : List ℕ) where
             same_entries = z ∙ r.same_entries;
           }
 
-      pub reading_end : t ≡ End → length f ≤ 65535 → (a : ReadAnswer) → a ≡ answer_of p.state
-          → ReadInto (run empty_table (logical f)) d e g a text' sections' entries'
-      reading_end w h a q =
-          let l : TurnTaken f p r.table d text' e sections' g entries' End = subst (TurnTaken f p r.table d text' e sections' g entries') w k in
-          subst (λ (z : ReadAnswer). ReadInto (run empty_table (logical f)) d e g z text' sections' entries') (sym q)
-          (record {
+      pub reading_end : t ≡ Ok None → length f ≤ 65535 → (c : Counts) → c ≡ counts_in p.state
+          → ReadInto (run empty_table (logical f)) d e g (Ok c) text' sections' entries'
+      reading_end w h c q =
+          let l : TurnTaken f p r.table d text' e sections' g entries' (Ok None) = subst (TurnTaken f p r.table d text' e sections' g entries') w k in
+          record {
             table = r.table;
             outcome = r.so_far ∙ ap (run r.table) l.0 ∙ run_nil r.table;
             state = p.state;
             holds = l.1;
-            text_is = refl;
-            sections_is = refl;
-            entries_is = refl;
+            counts = q;
             sized = sized_more p.cursor.offset 65535 r.table (omega (arith, r.inside)) r.sized;
-          })
+          }
 
-      pub reading_refused : (w : Error) → t ≡ Refused w → run empty_table (logical f) ≡ error_means w
+      pub reading_refused : (w : Error) → t ≡ Err w → run empty_table (logical f) ≡ error_means w
       reading_refused w q = r.so_far ∙ subst (TurnTaken f p r.table d text' e sections' g entries') q k

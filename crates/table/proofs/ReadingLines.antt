@@ -1,5 +1,6 @@
 -- The next line of a file, from what `next_line` promises: it goes into the table, no line is left, or it is refused.
-use Rattle.std.proofs.Common.{◌≡◌, ℕ, ◌+◌, ◌-◌, ◌<◌, ◌≤◌, List, [], ◌∷◌, length, take, refl, ap, ◌∙◌, subst, arith, length-take, le-ltb, lt-ltb}
+use Rattle.std.specs.Prelude.{Ok, Err, Result, Some, None}
+use Rattle.std.proofs.Common.{◌≡◌, ℕ, ◌+◌, ◌<◌, ◌≤◌, List, [], ◌∷◌, length, take, refl, ap, ◌∙◌, subst, arith, length-take, le-ltb, lt-ltb}
 use Rattle.lines.specs.Bytes.{Bytes}
 use Rattle.lines.specs.Lines.{Line}
 use Rattle.lines.specs.Trim.{trimmed}
@@ -19,10 +20,7 @@ use Rattle.table.specs.Steps.{LineTaken, TakesLine, ReadsLine}
 use Rattle.table.specs.declared.error.Error.{Error}
 use Rattle.table.specs.declared.error.Error.TheVariants.{File}
 use Rattle.table.specs.declared.state.State.{State}
-use Rattle.table.specs.declared.state.Step.{Step}
-use Rattle.table.specs.declared.state.Step.TheVariants.{Go, Refused}
 use Rattle.table.specs.declared.reader.Progress.{Progress}
-use Rattle.table.specs.declared.reader.Turn.TheVariants.{Go as TurnGo, End as TurnEnd, Refused as TurnRefused}
 
 -- ---- one line before others
 
@@ -62,30 +60,29 @@ module _ (f : Bytes) (c : Cursor) (before after : Bytes) (r : Next) (h : NextLin
 -- the part of the line buffer fits where the bytes of the file did
 pub part-fits : (f : Bytes) (c : Cursor) (before after : Bytes) (n m : ℕ) (q : Cursor) → FoundLine f c before after n m q
     → (used size : ℕ) → used ≤ c.offset → length f ≤ size
-    → used + length (take (n - 0) after) ≤ size
+    → used + length (take n after) ≤ size
 part-fits f c before after n m q l used size h k =
-    omega (arith, length-take (n - 0) after, l.shorter, l.inside)
+    omega (arith, length-take n after, l.shorter, l.inside)
 
 -- ---- what comes of it
 
 module _ (f : Bytes) (p : Progress) (text : Bytes) (sections entries : List ℕ) where
   module _ (before after : Bytes) (n m : ℕ) (q : Cursor) (l : FoundLine f p.cursor before after n m q)
-      (r : Step) (text' : Bytes) (sections' entries' : List ℕ)
-      (k : TakesLine (kind (trimmed (take (n - 0) after))) m p.state text sections entries r text' sections' entries') where
+      (r : Result State Error) (text' : Bytes) (sections' entries' : List ℕ)
+      (k : TakesLine (kind (trimmed (take n after))) m p.state text sections entries r text' sections' entries') where
     -- the part of the line buffer is the line
-    part : take (n - 0) after ≡ l.line.bytes
+    part : take n after ≡ l.line.bytes
     part =
-        let e : n - 0 ≡ length l.line.bytes = omega (arith, l.length_is) in
-        ap (take (n - 0)) l.buffer ∙ rw e (take-filled l.line.bytes before)
+        ap (take n) l.buffer ∙ rw (← l.length_is) (take-filled l.line.bytes before)
 
-    one_step : (t : Table) → step t l.line ≡ act m t (kind (trimmed (take (n - 0) after)))
+    one_step : (t : Table) → step t l.line ≡ act m t (kind (trimmed (take n after)))
     one_step t = short_step t l.line (omega (arith, l.fits, l.length_is)) ∙ rw (part, l.number_is)
 
-    pub line_goes : (s : State) → r ≡ Go s
-        → ReadsLine f p text sections entries (TurnGo (record { cursor = q; state = s })) text' sections' entries'
+    pub line_goes : (s : State) → r ≡ Ok s
+        → ReadsLine f p text sections entries (Ok (Some (record { cursor = q; state = s }))) text' sections' entries'
     line_goes s e t d a b h =
-        let x : LineTaken (act m t (kind (trimmed (take (n - 0) after)))) d text' a sections' b entries' (Go s) =
-        subst (λ (z : Step). LineTaken (act m t (kind (trimmed (take (n - 0) after)))) d text' a sections' b entries' z) e (k t d a b h) in
+        let x : LineTaken (act m t (kind (trimmed (take n after)))) d text' a sections' b entries' (Ok s) =
+        subst (λ (z : Result State Error). LineTaken (act m t (kind (trimmed (take n after)))) d text' a sections' b entries' z) e (k t d a b h) in
         record {
           line = l.line;
           view = l.view;
@@ -97,17 +94,17 @@ module _ (f : Bytes) (p : Progress) (text : Bytes) (sections entries : List ℕ)
           shorter = omega (arith, l.shorter, l.length_is);
         }
 
-    pub line_stops : (w : Error) → r ≡ Refused w → ReadsLine f p text sections entries (TurnRefused w) text' sections' entries'
+    pub line_stops : (w : Error) → r ≡ Err w → ReadsLine f p text sections entries (Err w) text' sections' entries'
     line_stops w e t d a b h =
-        let x : act m t (kind (trimmed (take (n - 0) after))) ≡ error_means w =
-        subst (λ (z : Step). LineTaken (act m t (kind (trimmed (take (n - 0) after)))) d text' a sections' b entries' z) e (k t d a b h) in
+        let x : act m t (kind (trimmed (take n after))) ≡ error_means w =
+        subst (λ (z : Result State Error). LineTaken (act m t (kind (trimmed (take n after)))) d text' a sections' b entries' z) e (k t d a b h) in
         ap (run t) l.view ∙ run_stops t l.line (logical_from f q) _ _ (one_step t ∙ x)
 
-  pub no_line : logical_from f p.cursor ≡ [] → ReadsLine f p text sections entries TurnEnd text sections entries
+  pub no_line : logical_from f p.cursor ≡ [] → ReadsLine f p text sections entries (Ok None) text sections entries
   no_line e t d a b h = (e, h)
 
   pub long_line : (before after : Bytes) (w : FileError) → LongLine f p.cursor before after w
-      → ReadsLine f p text sections entries (TurnRefused (File w)) text sections entries
+      → ReadsLine f p text sections entries (Err (File w)) text sections entries
   long_line before after w l t d a b h =
       ap (run t) l.view ∙ run_stops t l.line l.others 5 l.line.number (long_step t l.line l.long)
       ∙ rw (l.number, l.place)

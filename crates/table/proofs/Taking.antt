@@ -1,4 +1,5 @@
 -- One line more in a table that the buffers hold, by the tests that the code makes.
+use Rattle.std.specs.Prelude.{Option as CodeOption, Some, None, Ok, Err}
 use Rattle.std.proofs.Common.{◌≡◌, ℕ, ◌+◌, ◌-◌, ◌<◌, ◌≤◌, List, length, sym, refl, ap, ◌∙◌, subst, arith, le-ltb, lt-ltb}
 use mathlib.Core.Option.{Option, none, some}
 use Rattle.lines.specs.Bytes.{Bytes}
@@ -9,41 +10,38 @@ use Rattle.table.specs.Contents.{text_of, section_record, entry_record, records_
 use Rattle.table.specs.Steps.{SectionFound, current_of, SectionPut, EntryPut, Held, TakesHeader, TakesEntry}
 use Rattle.table.specs.declared.error.Error.TheVariants.{NoSection, TooMany}
 use Rattle.table.specs.declared.state.State.{State}
-use Rattle.table.specs.declared.state.Step.TheVariants.{Go, Refused}
 use Rattle.table.proofs.Search.{table_known, table_new}
 use Rattle.table.proofs.Puts.{numbers_kept, same_counts, section_held, entry-held}
 
 -- ---- a header
 
-module _ (x : Bytes) (n : ℕ) (s : State) (text : Bytes) (sections : List ℕ) (i : ℕ)
-    (f : SectionFound x text s.sections sections i) where
+module _ (x : Bytes) (n : ℕ) (s : State) (text : Bytes) (sections : List ℕ) where
   module _ (t : Table) (d : Bytes) (e : List ℕ) (h : Held section_record t s d text e sections) where
     -- what was found, in the buffers of the table that is held
-    found : SectionFound x (filled (text_of t.events) d) (length (names t.events)) (filled (records_from section_record 0 t.events) e) i
-    found =
-        subst (λ (z : List ℕ). SectionFound x (filled (text_of t.events) d) (length (names t.events)) z i) h.numbers_are
-        (subst (λ (z : Bytes). SectionFound x z (length (names t.events)) sections i) h.text_is
-        (subst (λ (z : State). SectionFound x text z.sections sections i) h.state f))
+    found : (r : CodeOption ℕ) → SectionFound x text s.sections sections r
+        → SectionFound x (filled (text_of t.events) d) (length (names t.events)) (filled (records_from section_record 0 t.events) e) r
+    found r f =
+        subst (λ (z : List ℕ). SectionFound x (filled (text_of t.events) d) (length (names t.events)) z r) h.numbers_are
+        (subst (λ (z : Bytes). SectionFound x z (length (names t.events)) sections r) h.text_is
+        (subst (λ (z : State). SectionFound x text z.sections sections r) h.state f))
 
     counted : s.sections ≡ length (names t.events)
     counted = ap (λ (z : State). z.sections) h.state
 
-    index_known : i < s.sections → index_of x (names t.events) ≡ some i
-    index_known l =
-        let m : i < length (names t.events) = omega (arith, counted) in
-        table_known t.events x d e i h.apart m (found.known m)
+    index_known : (i : ℕ) → SectionFound x text s.sections sections (Some i) → index_of x (names t.events) ≡ some i
+    index_known i f = let g = found (Some i) f in table_known t.events x d e i h.apart g.0 g.1
 
-    index_new : s.sections ≤ i → index_of x (names t.events) ≡ none
-    index_new l = table_new t.events x d e (found.new (omega (arith, counted)))
+    index_new : SectionFound x text s.sections sections None → index_of x (names t.events) ≡ none
+    index_new f = table_new t.events x d e (found None f)
 
   -- it goes on with an earlier section
-  pub header_known : i < s.sections
-      → TakesHeader (header x) n s text sections (Go (record { text = s.text; sections = s.sections; entries = s.entries; current = i + 1 })) text sections
+  pub header_known : (i : ℕ) → SectionFound x text s.sections sections (Some i)
+      → TakesHeader (header x) n s text sections (Ok (record { text = s.text; sections = s.sections; entries = s.entries; current = i + 1 })) text sections
   unfolding act opened
-  header_known l t d e h =
+  header_known i f t d e h =
       record {
         table = record { events = t.events; current = some i };
-        outcome = rw (index_known t d e h l);
+        outcome = rw (index_known t d e h i f);
         held = record {
           apart = h.apart;
           state =
@@ -55,23 +53,24 @@ module _ (x : Bytes) (n : ℕ) (s : State) (text : Bytes) (sections : List ℕ) 
         others = refl;
       }
 
-  -- the 65th section
-  pub header_many : s.sections ≤ i → 64 ≤ s.sections → TakesHeader (header x) n s text sections (Refused (TooMany n)) text sections
-  unfolding act opened
-  header_many l m t d e h =
-      rw (index_new t d e h l, le-ltb (length (names t.events)) 64 (omega (arith, counted t d e h)))
+  module _ (f : SectionFound x text s.sections sections None) where
+    -- the 65th section
+    pub header_many : 64 ≤ s.sections → TakesHeader (header x) n s text sections (Err (TooMany n)) text sections
+    unfolding act opened
+    header_many m t d e h =
+        rw (index_new t d e h f, le-ltb (length (names t.events)) 64 (omega (arith, counted t d e h)))
 
-  -- a new section
-  pub header_new : s.sections ≤ i → s.sections < 64 → (r : State) (text' : Bytes) (sections' : List ℕ)
-      → SectionPut x s text sections r text' sections' → TakesHeader (header x) n s text sections (Go r) text' sections'
-  unfolding act opened
-  header_new l m r text' sections' p t d e h =
-      record {
-        table = with t (new_section x) (length (names t.events));
-        outcome = rw (index_new t d e h l, lt-ltb (length (names t.events)) 64 (omega (arith, counted t d e h)));
-        held = section_held t d e x (index_new t d e h l) s text sections h r text' sections' p;
-        others = numbers_kept t.events (new_section x) entry_record refl;
-      }
+    -- a new section
+    pub header_new : s.sections < 64 → (r : State) (text' : Bytes) (sections' : List ℕ)
+        → SectionPut x s text sections r text' sections' → TakesHeader (header x) n s text sections (Ok r) text' sections'
+    unfolding act opened
+    header_new m r text' sections' p t d e h =
+        record {
+          table = with t (new_section x) (length (names t.events));
+          outcome = rw (index_new t d e h f, lt-ltb (length (names t.events)) 64 (omega (arith, counted t d e h)));
+          held = section_held t d e x (index_new t d e h f) s text sections h r text' sections' p;
+          others = numbers_kept t.events (new_section x) entry_record refl;
+        }
 
 -- ---- an entry
 
@@ -86,7 +85,7 @@ open_out (some j) q = absurd (omega arith)
 
 module _ (k v : Bytes) (n : ℕ) (s : State) (text : Bytes) (numbers : List ℕ) where
   -- before any header
-  pub entry_outside : s.current ≡ 0 → TakesEntry (entry k v) n s text numbers (Refused (NoSection n)) text numbers
+  pub entry_outside : s.current ≡ 0 → TakesEntry (entry k v) n s text numbers (Err (NoSection n)) text numbers
   unfolding act added
   entry_outside q t d e h =
       let o : t.current ≡ none = open_out t.current (sym (ap (λ (z : State). z.current) h.state) ∙ q) in
@@ -103,7 +102,7 @@ module _ (k v : Bytes) (n : ℕ) (s : State) (text : Bytes) (numbers : List ℕ)
         open_in t.current (λ z. q (c ∙ z)) ∙ ap (λ (z : ℕ). some (z - 1)) (sym c)
 
     -- the 513th
-    pub entry_many : 512 ≤ s.entries → TakesEntry (entry k v) n s text numbers (Refused (TooMany n)) text numbers
+    pub entry_many : 512 ≤ s.entries → TakesEntry (entry k v) n s text numbers (Err (TooMany n)) text numbers
     unfolding act added
     entry_many m t d e h =
         let c : s.entries ≡ length (entries t.events) = ap (λ (z : State). z.entries) h.state in
@@ -111,7 +110,7 @@ module _ (k v : Bytes) (n : ℕ) (s : State) (text : Bytes) (numbers : List ℕ)
 
     -- one more
     pub entry_new : s.entries < 512 → s.text ≤ length text → (r : State) (text' : Bytes) (numbers' : List ℕ)
-        → EntryPut i k v s text numbers r text' numbers' → TakesEntry (entry k v) n s text numbers (Go r) text' numbers'
+        → EntryPut i k v s text numbers r text' numbers' → TakesEntry (entry k v) n s text numbers (Ok r) text' numbers'
     unfolding act added
     entry_new m l r text' numbers' p t d e h =
         let c : s.entries ≡ length (entries t.events) = ap (λ (z : State). z.entries) h.state in

@@ -1,4 +1,5 @@
 -- One logical line more in a table that the buffers hold: its kind, by the tests that the code makes on its bytes.
+use Rattle.std.specs.Prelude.{Ok, Err, Result}
 use Rattle.std.proofs.Common.{◌≡◌, ℕ, suc, ◌+◌, ◌-◌, ◌<◌, ◌≤◌, true, false, eqb, List, [], ◌∷◌, ◌++◌, length, get_or, take, drop, sym, refl, ap, ◌∙◌, subst, arith, length-append, length-take, take_at, eq-eqb, ne_eqb}
 use Rattle.lines.specs.Bytes.{Bytes, key_byte, any}
 use Rattle.lines.specs.Trim.{trim_start, trim_end, trimmed}
@@ -7,36 +8,32 @@ use Rattle.lines.specs.Buffers.{filled}
 use Rattle.lines.proofs.Bools.{by_cases, is_false}
 use Rattle.lines.proofs.Slices.{part_from}
 use Rattle.lines.proofs.Trimming.{length-trim_start, length-trim_end, length_trim}
-use Rattle.table.specs.LineKinds.{Kind, header, entry, one_or_more, before, behind, is_header, header_kind, is_equals_sign, key_of, value_of, entry_kind, kind}
+use Rattle.table.specs.LineKinds.{Kind, header, entry, fault, one_or_more, before, behind, header_kind, is_equals_sign, key_of, value_of, entry_kind, kind}
 use Rattle.table.specs.Tables.{Event, Table, act}
 use Rattle.table.specs.Contents.{section_record, entry_record}
 use Rattle.table.specs.Steps.{Holds, StepTaken, Takes, TakesHeader, TakesEntry, LineTaken, TakesLine}
+use Rattle.table.specs.declared.error.Error.{Error}
 use Rattle.table.specs.declared.error.Error.TheVariants.{BadHeader, NoEqualsSign, BadKey}
 use Rattle.table.specs.declared.state.State.{State}
-use Rattle.table.specs.declared.state.Step.{Step}
-use Rattle.table.specs.declared.state.Step.TheVariants.{Go, Refused}
 use Rattle.table.proofs.Parts.{parted}
-use Rattle.table.proofs.Scans.{name_part}
 
 -- a line is taken for the kind that it is
-as_kind : (f g : ℕ → Event → List ℕ) (k k' : Kind) (n : ℕ) (s : State) (text : Bytes) (numbers : List ℕ) (r : Step) (text' : Bytes) (numbers' : List ℕ)
+as_kind : (f g : ℕ → Event → List ℕ) (k k' : Kind) (n : ℕ) (s : State) (text : Bytes) (numbers : List ℕ) (r : Result State Error) (text' : Bytes) (numbers' : List ℕ)
     → k ≡ k' → Takes f g k n s text numbers r text' numbers' → Takes f g k' n s text numbers r text' numbers'
 as_kind f g k k' n s text numbers r text' numbers' e h = subst (λ (z : Kind). Takes f g z n s text numbers r text' numbers') e h
 
 -- ---- a line that starts with [
 
 module _ (l : Bytes) (n : ℕ) (s : State) (text : Bytes) (sections : List ℕ) where
-  pub header_bad : is_header l ≡ false → TakesHeader (header_kind l) n s text sections (Refused (BadHeader n)) text sections
-  unfolding header_kind act
+  pub header_bad : header_kind l ≡ fault 6 → TakesHeader (header_kind l) n s text sections (Err (BadHeader n)) text sections
+  unfolding act
   header_bad e t d f h = rw e
 
-  pub header_good : is_header l ≡ true → (r : Step) (text' : Bytes) (sections' : List ℕ)
-      → TakesHeader (header (take (length l - 1 - 0) l)) n s text sections r text' sections'
+  pub header_good : (x : Bytes) → header_kind l ≡ header x → (r : Result State Error) (text' : Bytes) (sections' : List ℕ)
+      → TakesHeader (header x) n s text sections r text' sections'
       → TakesHeader (header_kind l) n s text sections r text' sections'
-  unfolding header_kind
-  header_good e r text' sections' h =
-      as_kind section_record entry_record (header (take (length l - 1 - 0) l)) (header_kind l) n s text sections r text' sections'
-      (ap header (name_part l) ∙ rw e) h
+  header_good x e r text' sections' h =
+      as_kind section_record entry_record (header x) (header_kind l) n s text sections r text' sections' (sym e) h
 
 -- ---- another line
 
@@ -49,7 +46,7 @@ sign_there (b ∷ bs) h =
     (λ e. rw e (sign_there bs (let k : length (before 0x3D (b ∷ bs)) ≡ suc (length (before 0x3D bs)) = rw e in omega (arith, h, k))))
 
 -- without one
-no_sign : (l : Bytes) → length l ≤ length (before 0x3D l) → any is_equals_sign l ≡ false
+no_sign : (l : Bytes) → length (before 0x3D l) ≡ length l → any is_equals_sign l ≡ false
 no_sign l h =
     is_false (any is_equals_sign l)
     (λ e. omega (arith, ap length (parted 0x3D l e), length-append (before 0x3D l) (0x3D ∷ behind 0x3D l)))
@@ -59,10 +56,9 @@ module _ (l : Bytes) (at : ℕ) (f : at ≡ length (before 0x3D l)) (h : at < le
   there = sign_there l (omega arith)
 
   -- the parts that the code lends
-  key_part : take (at - 0) l ≡ before 0x3D l
+  key_part : take at l ≡ before 0x3D l
   key_part =
-      let e : at - 0 ≡ at = omega arith in
-      rw e (ap (take at) (parted 0x3D l there) ∙ take_at (before 0x3D l) (0x3D ∷ behind 0x3D l) at (sym f))
+      ap (take at) (parted 0x3D l there) ∙ take_at (before 0x3D l) (0x3D ∷ behind 0x3D l) at (sym f)
 
   value-part : take (length l - (at + 1)) (drop (at + 1) l) ≡ behind 0x3D l
   value-part =
@@ -76,7 +72,7 @@ module _ (l : Bytes) (at : ℕ) (f : at ≡ length (before 0x3D l)) (h : at < le
           go [] = refl
           go (b ∷ bs) = go bs
 
-  module _ (k v : Bytes) (p : k ≡ trim_end (take (at - 0) l)) (q : v ≡ trim_start (take (length l - (at + 1)) (drop (at + 1) l))) where
+  module _ (k v : Bytes) (p : k ≡ trim_end (take at l)) (q : v ≡ trim_start (take (length l - (at + 1)) (drop (at + 1) l))) where
     key_is : k ≡ key_of l
     unfolding key_of
     key_is = p ∙ ap trim_end key_part
@@ -88,18 +84,18 @@ module _ (l : Bytes) (at : ℕ) (f : at ≡ length (before 0x3D l)) (h : at < le
     -- they fit where the line did
     pub parts_fit : length k + length v ≤ length l
     parts_fit =
-        let a : length k ≤ length (take (at - 0) l) = rw p (length-trim_end (take (at - 0) l)) in
+        let a : length k ≤ length (take at l) = rw p (length-trim_end (take at l)) in
         let b : length v ≤ length (take (length l - (at + 1)) (drop (at + 1) l)) = rw q (length-trim_start (take (length l - (at + 1)) (drop (at + 1) l))) in
-        omega (arith, a, b, length-take (at - 0) l, length-take (length l - (at + 1)) (drop (at + 1) l))
+        omega (arith, a, b, length-take at l, length-take (length l - (at + 1)) (drop (at + 1) l))
 
     module _ (n : ℕ) (s : State) (text : Bytes) (entries : List ℕ) where
-      pub key_bad : one_or_more key_byte k ≡ false → TakesEntry (entry_kind l) n s text entries (Refused (BadKey n)) text entries
+      pub key_bad : one_or_more key_byte k ≡ false → TakesEntry (entry_kind l) n s text entries (Err (BadKey n)) text entries
       unfolding entry_kind act
       key_bad e t d g h =
           let m : one_or_more key_byte (key_of l) ≡ false = ap (one_or_more key_byte) (sym key_is) ∙ e in
           rw (there, m)
 
-      pub key_good : one_or_more key_byte k ≡ true → (r : Step) (text' : Bytes) (entries' : List ℕ)
+      pub key_good : one_or_more key_byte k ≡ true → (r : Result State Error) (text' : Bytes) (entries' : List ℕ)
           → TakesEntry (entry k v) n s text entries r text' entries' → TakesEntry (entry_kind l) n s text entries r text' entries'
       unfolding entry_kind
       key_good e r text' entries' h =
@@ -107,18 +103,18 @@ module _ (l : Bytes) (at : ℕ) (f : at ≡ length (before 0x3D l)) (h : at < le
           as_kind entry_record section_record (entry k v) (entry_kind l) n s text entries r text' entries'
           (rw (key_is, value_is, there, m)) h
 
-pub sign_missing : (l : Bytes) (at : ℕ) → at ≡ length (before 0x3D l) → length l ≤ at
-    → (n : ℕ) (s : State) (text : Bytes) (entries : List ℕ) → TakesEntry (entry_kind l) n s text entries (Refused (NoEqualsSign n)) text entries
+pub sign_missing : (l : Bytes) → length (before 0x3D l) ≡ length l
+    → (n : ℕ) (s : State) (text : Bytes) (entries : List ℕ) → TakesEntry (entry_kind l) n s text entries (Err (NoEqualsSign n)) text entries
 unfolding entry_kind act
-sign_missing l at f h n s text entries t d g k = rw (no_sign l (omega arith))
+sign_missing l f n s text entries t d g k = rw (no_sign l f)
 
 -- ---- any line
 
 -- what a step leaves in one buffer of numbers, and in both
 module _ (t : Table) (o : Outcome Table) (s : State) (d text text' : Bytes) (e sections sections' g entries entries' : List ℕ)
     (h : Holds t s d text e sections g entries) where
-  both_sections : (r : Step) → StepTaken section_record entry_record t o d text' e sections' r → LineTaken o d text' e sections' g entries r
-  both_sections (Go u) k = (
+  both_sections : (r : Result State Error) → StepTaken section_record entry_record t o d text' e sections' r → LineTaken o d text' e sections' g entries r
+  both_sections (Ok u) k = (
     k.table,
     k.outcome,
     record {
@@ -129,10 +125,10 @@ module _ (t : Table) (o : Outcome Table) (s : State) (d text text' : Bytes) (e s
       entries_are = h.entries_are ∙ ap (λ (z : List ℕ). filled z g) (sym k.others);
     },
   )
-  both_sections (Refused q) k = k
+  both_sections (Err q) k = k
 
-  both_entries : (r : Step) → StepTaken entry_record section_record t o d text' g entries' r → LineTaken o d text' e sections g entries' r
-  both_entries (Go u) k = (
+  both_entries : (r : Result State Error) → StepTaken entry_record section_record t o d text' g entries' r → LineTaken o d text' e sections g entries' r
+  both_entries (Ok u) k = (
     k.table,
     k.outcome,
     record {
@@ -143,14 +139,14 @@ module _ (t : Table) (o : Outcome Table) (s : State) (d text text' : Bytes) (e s
       entries_are = k.held.numbers_are;
     },
   )
-  both_entries (Refused q) k = k
+  both_entries (Err q) k = k
 
 module _ (l : Bytes) (n : ℕ) (s : State) (text : Bytes) (sections entries : List ℕ) where
-  pub line_empty : length l ≡ 0 → TakesLine (kind l) n s text sections entries (Go s) text sections entries
+  pub line_empty : length l ≡ 0 → TakesLine (kind l) n s text sections entries (Ok s) text sections entries
   unfolding kind act
   line_empty e t d f g h = go l e
     where
-      go : (l : Bytes) → length l ≡ 0 → LineTaken (act n t (kind l)) d text f sections g entries (Go s)
+      go : (l : Bytes) → length l ≡ 0 → LineTaken (act n t (kind l)) d text f sections g entries (Ok s)
       go [] e = (t, refl, h)
       go (b ∷ bs) e = absurd (omega arith)
 
@@ -170,7 +166,7 @@ module _ (l : Bytes) (n : ℕ) (s : State) (text : Bytes) (sections entries : Li
     unfolding kind
     starts_entry e = first (entry_kind l) (λ b bs q. let z : eqb b 0x5B ≡ false = ap (λ (x : Bytes). eqb (get_or x 0 0) 0x5B) (sym q) ∙ e in rw (z, q))
 
-    pub line_header : get_or l 0 0 ≡ 0x5B → (r : Step) (text' : Bytes) (sections' : List ℕ)
+    pub line_header : get_or l 0 0 ≡ 0x5B → (r : Result State Error) (text' : Bytes) (sections' : List ℕ)
         → TakesHeader (header_kind (take (length l - 1) (drop 1 l))) n s text sections r text' sections'
         → TakesLine (kind l) n s text sections entries r text' sections' entries
     line_header e r text' sections' k t d f g h =
@@ -178,7 +174,7 @@ module _ (l : Bytes) (n : ℕ) (s : State) (text : Bytes) (sections entries : Li
         rw q (both_sections t _ s d text text' f sections sections' g entries entries h r
         (k t d f (record { apart = h.apart; state = h.state; text_is = h.text_is; numbers_are = h.sections_are })))
 
-    pub line_entry : (get_or l 0 0 ≡ 0x5B → ⊥) → (r : Step) (text' : Bytes) (entries' : List ℕ)
+    pub line_entry : (get_or l 0 0 ≡ 0x5B → ⊥) → (r : Result State Error) (text' : Bytes) (entries' : List ℕ)
         → TakesEntry (entry_kind l) n s text entries r text' entries'
         → TakesLine (kind l) n s text sections entries r text' sections entries'
     line_entry e r text' entries' k t d f g h =
@@ -186,7 +182,7 @@ module _ (l : Bytes) (n : ℕ) (s : State) (text : Bytes) (sections entries : Li
         (k t d g (record { apart = h.apart; state = h.state; text_is = h.text_is; numbers_are = h.entries_are })))
 
 -- the bytes that were trimmed
-pub for_trimmed : (l m : Bytes) (n : ℕ) (s : State) (text : Bytes) (sections entries : List ℕ) (r : Step) (text' : Bytes) (sections' entries' : List ℕ)
+pub for_trimmed : (l m : Bytes) (n : ℕ) (s : State) (text : Bytes) (sections entries : List ℕ) (r : Result State Error) (text' : Bytes) (sections' entries' : List ℕ)
     → l ≡ m → TakesLine (kind l) n s text sections entries r text' sections' entries'
     → TakesLine (kind m) n s text sections entries r text' sections' entries'
 for_trimmed l m n s text sections entries r text' sections' entries' e h =

@@ -1,25 +1,28 @@
 -- What the functions inside the crate promise: a name looked for in the buffers, one line more in them, all lines.
 -- No public promise cites this file.
-use Rattle.std.specs.Prelude.{◌≡◌, ℕ, zero, suc, ◌+◌, ◌*◌, ◌<◌, ◌≤◌, Bool, true, cond, ◌&&◌, List, [], ◌∷◌, length, take, drop, nat_le, slice_index}
+use Rattle.std.specs.Prelude.{◌≡◌, ℕ, zero, suc, ◌+◌, ◌*◌, ◌<◌, ◌≤◌, Bool, true, cond, ◌&&◌, List, [], ◌∷◌, length, take, drop, nat_le, slice_index, Option as CodeOption, Some, None, Result, Ok, Err}
 use Rattle.std.proofs.Math.Option.{Option, none, some}
 use Rattle.lines.specs.Bytes.{Bytes, equal}
 use Rattle.lines.specs.Lines.{Line}
 use Rattle.lines.specs.Answers.{Outcome, accepted}
 use Rattle.lines.specs.Buffers.{filled, put}
 use Rattle.lines.specs.Cursors.{logical_from}
-use Rattle.table.specs.LineKinds.{Kind}
+use Rattle.table.specs.LineKinds.{Kind, before}
 use Rattle.table.specs.Tables.{Event, Table, names, entries, act, step, run}
 use Rattle.table.specs.Contents.{text_of, section_record, entry_record, records_from, section_numbers, entry_numbers}
 use Rattle.table.specs.Answers.{error_means}
 use Rattle.table.specs.Laws.{Sized, Apart}
 use Rattle.table.specs.declared.state.State.{State}
-use Rattle.table.specs.declared.state.Step.{Step}
-use Rattle.table.specs.declared.state.Step.TheVariants.{Go, Refused}
+use Rattle.table.specs.declared.error.Error.{Error}
+use Rattle.table.specs.declared.state.Counts.{Counts}
 use Rattle.table.specs.declared.reader.Progress.{Progress}
-use Rattle.table.specs.declared.reader.Turn.{Turn}
-use Rattle.table.specs.declared.reader.Turn.TheVariants.{Go as TurnGo, End as TurnEnd, Refused as TurnRefused}
-use Rattle.table.specs.declared.reader.ReadAnswer.{ReadAnswer}
-use Rattle.table.specs.declared.reader.ReadAnswer.TheVariants.{Accepted as ReadAccepted, Refused as ReadRefused}
+
+-- ---- the parts of a line
+
+-- the index of the first byte c, or none where there is none
+abbrev pub OffsetFound : (c : ℕ) → Bytes → CodeOption ℕ → Type 0
+OffsetFound c l (Some i) = (i < length l) × (i ≡ length (before c l))
+OffsetFound c l None = length (before c l) ≡ length l
 
 -- ---- a name among the sections in the buffers
 
@@ -36,10 +39,10 @@ first_named x text (suc k) [] = 0
 first_named x text (suc k) (a ∷ []) = 0
 first_named x text (suc k) (a ∷ n ∷ ns) = cond (is_named x text a n) 0 (suc (first_named x text k ns))
 
--- an index below their number is that of a pair whose part is the name, and any other says that no pair is
-pub record SectionFound (name text : Bytes) (count : ℕ) (numbers : List ℕ) (index : ℕ) : Type 0 where
-  pub known : index < count → is_named name text (slice_index numbers (2 * index)) (slice_index numbers (2 * index + 1)) ≡ true
-  pub new : count ≤ index → first_named name text count numbers ≡ count
+-- the index of a pair whose part is the name, or none where no pair's is
+abbrev pub SectionFound : (name text : Bytes) (count : ℕ) (numbers : List ℕ) → CodeOption ℕ → Type 0
+SectionFound x text n ns (Some i) = (i < n) × (is_named x text (slice_index ns (2 * i)) (slice_index ns (2 * i + 1)) ≡ true)
+SectionFound x text n ns None = first_named x text n ns ≡ n
 
 -- ---- the state of a table
 
@@ -86,24 +89,24 @@ pub record Taken (f other : ℕ → Event → List ℕ) (t : Table) (o : Outcome
   pub others : records_from other 0 table.events ≡ records_from other 0 t.events
 
 -- what a step leaves; after a refusal nobody reads the buffers
-abbrev pub StepTaken : (f other : ℕ → Event → List ℕ) → Table → Outcome Table → (d text : Bytes) (e numbers : List ℕ) → Step → Type 0
-StepTaken f other t o d text e numbers (Go s) = Taken f other t o s d text e numbers
-StepTaken f other t o d text e numbers (Refused k) = o ≡ error_means k
+abbrev pub StepTaken : (f other : ℕ → Event → List ℕ) → Table → Outcome Table → (d text : Bytes) (e numbers : List ℕ) → Result State Error → Type 0
+StepTaken f other t o d text e numbers (Ok s) = Taken f other t o s d text e numbers
+StepTaken f other t o d text e numbers (Err k) = o ≡ error_means k
 
 -- a line of this kind, with number n, is taken into whatever table is held
 abbrev pub Takes : (f other : ℕ → Event → List ℕ) → Kind → (n : ℕ) (s : State) (text : Bytes) (numbers : List ℕ)
-    (r : Step) (text' : Bytes) (numbers' : List ℕ) → Type 0
+    (r : Result State Error) (text' : Bytes) (numbers' : List ℕ) → Type 0
 Takes f other k n s text numbers r text' numbers' =
     (t : Table) (d : Bytes) (e : List ℕ) → Held f t s d text e numbers → StepTaken f other t (act n t k) d text' e numbers' r
 
 -- a header
 abbrev pub TakesHeader : Kind → (n : ℕ) (s : State) (text : Bytes) (sections : List ℕ)
-    (r : Step) (text' : Bytes) (sections' : List ℕ) → Type 0
+    (r : Result State Error) (text' : Bytes) (sections' : List ℕ) → Type 0
 TakesHeader k n s text sections r text' sections' = Takes section_record entry_record k n s text sections r text' sections'
 
 -- an entry
 abbrev pub TakesEntry : Kind → (n : ℕ) (s : State) (text : Bytes) (entries : List ℕ)
-    (r : Step) (text' : Bytes) (entries' : List ℕ) → Type 0
+    (r : Result State Error) (text' : Bytes) (entries' : List ℕ) → Type 0
 TakesEntry k n s text entries r text' entries' = Takes entry_record section_record k n s text entries r text' entries'
 
 -- ---- a line and all three buffers; d, e and g are the buffers as they were at first
@@ -117,13 +120,13 @@ pub record Holds (t : Table) (s : State) (d text : Bytes) (e sections : List ℕ
   pub entries_are : entries ≡ filled (entry_numbers t.events) g
 
 -- what a step leaves
-abbrev pub LineTaken : Outcome Table → (d text : Bytes) (e sections g entries : List ℕ) → Step → Type 0
-LineTaken o d text e sections g entries (Go s) = (u : Table) × (o ≡ accepted u) × Holds u s d text e sections g entries
-LineTaken o d text e sections g entries (Refused k) = o ≡ error_means k
+abbrev pub LineTaken : Outcome Table → (d text : Bytes) (e sections g entries : List ℕ) → Result State Error → Type 0
+LineTaken o d text e sections g entries (Ok s) = (u : Table) × (o ≡ accepted u) × Holds u s d text e sections g entries
+LineTaken o d text e sections g entries (Err k) = o ≡ error_means k
 
 -- a line of this kind, with number n, is taken into whatever table is held
 abbrev pub TakesLine : Kind → (n : ℕ) (s : State) (text : Bytes) (sections entries : List ℕ)
-    (r : Step) (text' : Bytes) (sections' entries' : List ℕ) → Type 0
+    (r : Result State Error) (text' : Bytes) (sections' entries' : List ℕ) → Type 0
 TakesLine k n s text sections entries r text' sections' entries' =
     (t : Table) (d : Bytes) (e g : List ℕ) → Holds t s d text e sections g entries
     → LineTaken (act n t k) d text' e sections' g entries' r
@@ -142,35 +145,33 @@ pub record LineRead (f : Bytes) (p : Progress) (t : Table) (d text : Bytes) (e s
   pub shorter : p.cursor.offset + length line.bytes ≤ q.cursor.offset
 
 -- what reading a line leaves
-abbrev pub TurnTaken : Bytes → Progress → Table → (d text : Bytes) (e sections g entries : List ℕ) → Turn → Type 0
-TurnTaken f p t d text e sections g entries (TurnGo q) = LineRead f p t d text e sections g entries q
-TurnTaken f p t d text e sections g entries TurnEnd =
+abbrev pub TurnTaken : Bytes → Progress → Table → (d text : Bytes) (e sections g entries : List ℕ) → Result (CodeOption Progress) Error → Type 0
+TurnTaken f p t d text e sections g entries (Ok (Some q)) = LineRead f p t d text e sections g entries q
+TurnTaken f p t d text e sections g entries (Ok None) =
     (logical_from f p.cursor ≡ []) × Holds t p.state d text e sections g entries
-TurnTaken f p t d text e sections g entries (TurnRefused k) = run t (logical_from f p.cursor) ≡ error_means k
+TurnTaken f p t d text e sections g entries (Err k) = run t (logical_from f p.cursor) ≡ error_means k
 
 -- the next line is read into whatever table is held
 abbrev pub ReadsLine : (f : Bytes) (p : Progress) (text : Bytes) (sections entries : List ℕ)
-    (r : Turn) (text' : Bytes) (sections' entries' : List ℕ) → Type 0
+    (r : Result (CodeOption Progress) Error) (text' : Bytes) (sections' entries' : List ℕ) → Type 0
 ReadsLine f p text sections entries r text' sections' entries' =
     (t : Table) (d : Bytes) (e g : List ℕ) → Holds t p.state d text e sections g entries
     → TurnTaken f p t d text' e sections' g entries' r
 
--- the answer for a table that is complete
-abbrev pub answer_of : State → ReadAnswer
-answer_of s = ReadAccepted s.text s.sections s.entries
+-- the counts of a table that is complete
+abbrev pub counts_in : State → Counts
+counts_in s = record { text = s.text; sections = s.sections; entries = s.entries }
 
 -- all lines were read
-pub record AllRead (o : Outcome Table) (d text : Bytes) (e sections g entries : List ℕ) (n m k : ℕ) : Type 0 where
+pub record AllRead (o : Outcome Table) (d text : Bytes) (e sections g entries : List ℕ) (c : Counts) : Type 0 where
   pub table : Table
   pub outcome : o ≡ accepted table
   pub state : State
   pub holds : Holds table state d text e sections g entries
-  pub text_is : n ≡ state.text
-  pub sections_is : m ≡ state.sections
-  pub entries_is : k ≡ state.entries
+  pub counts : c ≡ counts_in state
   pub sized : Sized 65535 table
 
 -- what reading all lines leaves
-abbrev pub ReadInto : Outcome Table → (d : Bytes) (e g : List ℕ) → ReadAnswer → (text : Bytes) (sections entries : List ℕ) → Type 0
-ReadInto o d e g (ReadAccepted n m k) text sections entries = AllRead o d text e sections g entries n m k
-ReadInto o d e g (ReadRefused k) text sections entries = o ≡ error_means k
+abbrev pub ReadInto : Outcome Table → (d : Bytes) (e g : List ℕ) → Result Counts Error → (text : Bytes) (sections entries : List ℕ) → Type 0
+ReadInto o d e g (Ok c) text sections entries = AllRead o d text e sections g entries c
+ReadInto o d e g (Err k) text sections entries = o ≡ error_means k

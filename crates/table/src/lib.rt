@@ -10,4 +10,5 @@ mod state;
 mod steps;
 
 pub use error::Error;
-pub use reader::{ReadAnswer, read};
+pub use reader::read;
+pub use state::Counts;

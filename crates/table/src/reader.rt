@@ -3,23 +3,13 @@ ghost use Rattle.std.specs.Prelude.{◌≡◌, ◌≤◌, length};
 ghost use Rattle.lines.specs.Lines.{logical};
 ghost use Rattle.table.specs.Tables.{empty_table, run};
 ghost use Rattle.table.specs.Answers.{ReadLeaves, Reads};
-ghost use Rattle.table.specs.Steps.{answer_of, ReadsLine, ReadInto};
+ghost use Rattle.table.specs.Steps.{ReadsLine, ReadInto};
 
 use crate::error::Error;
-use crate::state::{State, Step};
+use crate::order::Order;
+use crate::state::{Counts, State};
 use crate::steps::add_line;
 use lines::{Check, Cursor, Next};
-
-#[derive(Clone, Copy)]
-pub enum ReadAnswer {
-    // How many text bytes, sections and entries there are.
-    Accepted {
-        text: usize,
-        sections: usize,
-        entries: usize,
-    },
-    Refused(Error),
-}
 
 // The least sizes of the buffers.
 const TEXT_BYTES: usize = 65535;
@@ -28,9 +18,6 @@ const SECTION_NUMBERS: usize = 128;
 
 const ENTRY_NUMBERS: usize = 2560;
 
-// The order of the sections has two numbers for each.
-const ORDER_NUMBERS: usize = 128;
-
 // Where reading goes on, and what the table has.
 #[derive(Clone, Copy)]
 struct Progress {
@@ -38,26 +25,7 @@ struct Progress {
     state: State,
 }
 
-#[derive(Clone, Copy)]
-enum Turn {
-    Go(Progress),
-    // No line is left.
-    End,
-    Refused(Error),
-}
-
-// The answer for a table that is complete.
-fn accepted(state: State) -> ReadAnswer
-    ensures { result ≡ answer_of state }
-{
-    ReadAnswer::Accepted {
-        text: state.text,
-        sections: state.sections,
-        entries: state.entries,
-    }
-}
-
-// The next logical line goes into the table. The line buffer has at least 4,096 bytes.
+// The next logical line goes into the table, where one is left. The line buffer has at least 4,096 bytes.
 fn read_line(
     file: &[u8],
     progress: Progress,
@@ -65,9 +33,9 @@ fn read_line(
     text: &mut [u8],
     sections: &mut [usize],
     entries: &mut [usize],
-    order: &mut [usize],
-) -> Turn
-    requires { (4096 ≤ length line.old) × (progress.state.text ≤ progress.cursor.offset) × (length file.now ≤ length text.old) × (progress.state.sections ≤ 64) × (128 ≤ length sections.old) × (2560 ≤ length entries.old) × (128 ≤ length order.old) }
+    order: &mut Order,
+) -> Result<Option<Progress>, Error>
+    requires { (4096 ≤ length line.old) × (progress.state.text ≤ progress.cursor.offset) × (length file.now ≤ length text.old) × (progress.state.sections ≤ 64) × (128 ≤ length sections.old) × (2560 ≤ length entries.old) }
     ensures { ReadsLine file.now progress text.old sections.old entries.old result text.new sections.new entries.new }
 {
     match lines::next_line(file, progress.cursor, line) {
@@ -75,23 +43,23 @@ fn read_line(
             length,
             first,
             next,
-        } => match add_line(
-            &line[0..length],
-            first,
-            progress.state,
-            text,
-            sections,
-            entries,
-            order,
-        ) {
-            Step::Go(state) => Turn::Go(Progress {
+        } => {
+            let state = add_line(
+                &line[..length],
+                first,
+                progress.state,
+                text,
+                sections,
+                entries,
+                order,
+            )?;
+            Ok(Some(Progress {
                 cursor: next,
                 state,
-            }),
-            Step::Refused(e) => Turn::Refused(e),
-        },
-        Next::End => Turn::End,
-        Next::Refused(e) => Turn::Refused(Error::File(e)),
+            }))
+        }
+        Next::End => Ok(None),
+        Next::Refused(e) => Err(Error::from(e)),
     }
 }
 
@@ -101,25 +69,22 @@ fn read_lines(
     text: &mut [u8],
     sections: &mut [usize],
     entries: &mut [usize],
-) -> ReadAnswer
+) -> Result<Counts, Error>
     requires { (length file.now ≤ 65535) × (length text.old ≡ 65535) × (length sections.old ≡ 128) × (length entries.old ≡ 2560) }
     ensures { ReadInto (run empty_table (logical file.now)) text.old sections.old entries.old result text.new sections.new entries.new }
 {
     let mut line = [0u8; 4096];
-    let mut order = [0usize; ORDER_NUMBERS];
+    let mut order = Order::new();
     let mut progress = Progress {
         cursor: Cursor::first(),
         state: State::new(),
     };
-    loop {
-        match read_line(
-            file, progress, &mut line, text, sections, entries, &mut order,
-        ) {
-            Turn::Go(next) => progress = next,
-            Turn::End => return accepted(progress.state),
-            Turn::Refused(e) => return ReadAnswer::Refused(e),
-        }
+    while let Some(next) = read_line(
+        file, progress, &mut line, text, sections, entries, &mut order,
+    )? {
+        progress = next;
     }
+    Ok(progress.state.counts())
 }
 
 // The table of a file by way of buffers of its own, so that a late fault leaves the lent ones as they were.
@@ -128,26 +93,18 @@ fn read_apart(
     text: &mut [u8],
     sections: &mut [usize],
     entries: &mut [usize],
-) -> ReadAnswer
+) -> Result<Counts, Error>
     requires { (length file.now ≤ 65535) × (65535 ≤ length text.old) × (128 ≤ length sections.old) × (2560 ≤ length entries.old) }
     ensures { ReadLeaves (run empty_table (logical file.now)) text.old sections.old entries.old result text.new sections.new entries.new }
 {
     let mut bytes = [0u8; TEXT_BYTES];
     let mut section_numbers = [0usize; SECTION_NUMBERS];
     let mut entry_numbers = [0usize; ENTRY_NUMBERS];
-    let answer = read_lines(file, &mut bytes, &mut section_numbers, &mut entry_numbers);
-    let ReadAnswer::Accepted {
-        text: t,
-        sections: s,
-        entries: k,
-    } = answer
-    else {
-        return answer;
-    };
-    lines::copy_into(&bytes[0..t], text, 0);
-    lines::copy_numbers_into(&section_numbers[0..2 * s], sections, 0);
-    lines::copy_numbers_into(&entry_numbers[0..5 * k], entries, 0);
-    answer
+    let counts = read_lines(file, &mut bytes, &mut section_numbers, &mut entry_numbers)?;
+    lines::copy_into(&bytes[..counts.text], text, 0);
+    lines::copy_numbers_into(&section_numbers[..2 * counts.sections], sections, 0);
+    lines::copy_numbers_into(&entry_numbers[..5 * counts.entries], entries, 0);
+    Ok(counts)
 }
 
 // Reads a file: its table in `text`, `sections` and `entries`, which have at least 65,535 bytes, 128 and 2,560
@@ -157,20 +114,20 @@ pub fn read(
     text: &mut [u8],
     sections: &mut [usize],
     entries: &mut [usize],
-) -> ReadAnswer
+) -> Result<Counts, Error>
     ensures { Reads file.now text.old sections.old entries.old result text.new sections.new entries.new }
 {
     if text.len() < TEXT_BYTES {
-        return ReadAnswer::Refused(Error::File(lines::Error::ShortBuffer));
+        return Err(Error::File(lines::Error::ShortBuffer));
     }
     if sections.len() < SECTION_NUMBERS {
-        return ReadAnswer::Refused(Error::File(lines::Error::ShortBuffer));
+        return Err(Error::File(lines::Error::ShortBuffer));
     }
     if entries.len() < ENTRY_NUMBERS {
-        return ReadAnswer::Refused(Error::File(lines::Error::ShortBuffer));
+        return Err(Error::File(lines::Error::ShortBuffer));
     }
     match lines::check_file(file) {
         Check::Accepted => read_apart(file, text, sections, entries),
-        Check::Refused(e) => ReadAnswer::Refused(Error::File(e)),
+        Check::Refused(e) => Err(Error::from(e)),
     }
 }

@@ -4,48 +4,48 @@ ghost use Rattle.table.specs.LineKinds.{header};
 ghost use Rattle.table.specs.Steps.{is_named, SectionFound, SectionPut, TakesHeader};
 
 use crate::error::Error;
-use crate::order::{guess_section, put_in_order};
-use crate::state::{State, Step};
+use crate::order::Order;
+use crate::state::State;
 
 // Whether a part of the text is this name. One that is not inside the text is no name.
 fn is_named(name: &[u8], text: &[u8], start: usize, length: usize) -> bool
     ensures { result ≡ is_named name.now text.now start length }
 {
-    if text.len() < start {
-        return false;
-    }
-    if text.len() - start < length {
-        return false;
-    }
-    lines::same(name, &text[start..start + length])
+    start <= text.len()
+        && length <= text.len() - start
+        && lines::same(name, &text[start..start + length])
 }
 
-// The index of a section with this name, or the number of sections. All of them are looked at, one after another.
-fn search_sections(name: &[u8], text: &[u8], sections: &[usize], count: usize) -> usize
+// The index of a section with this name. All of them are looked at, one after another.
+fn search_sections(name: &[u8], text: &[u8], sections: &[usize], count: usize) -> Option<usize>
     requires { 2 * count ≤ length sections.now }
     ensures { SectionFound name.now text.now count sections.now result }
 {
-    let mut i = 0;
-    while i < count {
+    for i in 0..count {
         if is_named(name, text, sections[2 * i], sections[2 * i + 1]) {
-            return i;
+            return Some(i);
         }
-        i += 1;
     }
-    i
+    None
 }
 
 // The same, where a guess comes first. It may be any number; one that is right saves the search.
-fn find_section(name: &[u8], text: &[u8], sections: &[usize], count: usize, guess: usize) -> usize
+fn find_section(
+    name: &[u8],
+    text: &[u8],
+    sections: &[usize],
+    count: usize,
+    guess: Option<usize>,
+) -> Option<usize>
     requires { 2 * count ≤ length sections.now }
     ensures { SectionFound name.now text.now count sections.now result }
 {
-    if guess < count {
-        if is_named(name, text, sections[2 * guess], sections[2 * guess + 1]) {
-            return guess;
+    match guess {
+        Some(i) if i < count && is_named(name, text, sections[2 * i], sections[2 * i + 1]) => {
+            guess
         }
+        _ => search_sections(name, text, sections, count),
     }
-    search_sections(name, text, sections, count)
 }
 
 // A new section behind the others.
@@ -61,8 +61,8 @@ fn put_section(name: &[u8], state: State, text: &mut [u8], sections: &mut [usize
     State {
         text: start + name.len(),
         sections: count + 1,
-        entries: state.entries,
         current: count + 1,
+        ..state
     }
 }
 
@@ -73,25 +73,22 @@ pub(crate) fn open_section(
     state: State,
     text: &mut [u8],
     sections: &mut [usize],
-    order: &mut [usize],
-) -> Step
-    requires { (state.text + length name.now ≤ length text.old) × (state.sections ≤ 64) × (128 ≤ length sections.old) × (128 ≤ length order.old) }
+    order: &mut Order,
+) -> Result<State, Error>
+    requires { (state.text + length name.now ≤ length text.old) × (state.sections ≤ 64) × (128 ≤ length sections.old) }
     ensures { TakesHeader (header name.now) number state text.old sections.old result text.new sections.new }
 {
     let count = state.sections;
-    let guess = guess_section(name, text, sections, count, order);
-    let index = find_section(name, text, sections, count, guess);
-    if index < count {
-        return Step::Go(State {
-            text: state.text,
-            sections: count,
-            entries: state.entries,
+    let guess = order.guess(name, text, sections);
+    if let Some(index) = find_section(name, text, sections, count, guess) {
+        return Ok(State {
             current: index + 1,
+            ..state
         });
     }
     if 64 <= count {
-        return Step::Refused(Error::TooMany(number));
+        return Err(Error::TooMany(number));
     }
-    put_in_order(name, text, sections, count, order);
-    Step::Go(put_section(name, state, text, sections))
+    order.put(name, text, sections);
+    Ok(put_section(name, state, text, sections))
 }

@@ -6,9 +6,10 @@ ghost use Rattle.table.specs.LineKinds.{entry, header_kind, entry_kind, kind};
 ghost use Rattle.table.specs.Steps.{EntryPut, TakesHeader, TakesEntry, TakesLine};
 
 use crate::error::Error;
-use crate::kinds::{is_header, is_key, offset_of};
+use crate::kinds::{header_name, is_key, offset_of};
+use crate::order::Order;
 use crate::sections::open_section;
-use crate::state::{State, Step};
+use crate::state::State;
 
 // ---- entries
 
@@ -51,9 +52,8 @@ fn put_entry(
     put_record(entries, 5 * index, section, start, key.len(), value.len());
     State {
         text: middle + value.len(),
-        sections: state.sections,
         entries: index + 1,
-        current: state.current,
+        ..state
     }
 }
 
@@ -65,18 +65,18 @@ fn add_entry(
     state: State,
     text: &mut [u8],
     entries: &mut [usize],
-) -> Step
+) -> Result<State, Error>
     requires { (state.text + length key.now + length value.now ≤ length text.old) × (2560 ≤ length entries.old) }
     ensures { TakesEntry (entry key.now value.now) number state text.old entries.old result text.new entries.new }
 {
     let current = state.current;
     if current == 0 {
-        return Step::Refused(Error::NoSection(number));
+        return Err(Error::NoSection(number));
     }
     if 512 <= state.entries {
-        return Step::Refused(Error::TooMany(number));
+        return Err(Error::TooMany(number));
     }
-    Step::Go(put_entry(current - 1, key, value, state, text, entries))
+    Ok(put_entry(current - 1, key, value, state, text, entries))
 }
 
 // ---- lines
@@ -88,22 +88,15 @@ fn add_header_line(
     state: State,
     text: &mut [u8],
     sections: &mut [usize],
-    order: &mut [usize],
-) -> Step
-    requires { (state.text + length rest.now ≤ length text.old) × (state.sections ≤ 64) × (128 ≤ length sections.old) × (128 ≤ length order.old) }
+    order: &mut Order,
+) -> Result<State, Error>
+    requires { (state.text + length rest.now ≤ length text.old) × (state.sections ≤ 64) × (128 ≤ length sections.old) }
     ensures { TakesHeader (header_kind rest.now) number state text.old sections.old result text.new sections.new }
 {
-    if !is_header(rest) {
-        return Step::Refused(Error::BadHeader(number));
-    }
-    open_section(
-        &rest[0..rest.len() - 1],
-        number,
-        state,
-        text,
-        sections,
-        order,
-    )
+    let Some(name) = header_name(rest) else {
+        return Err(Error::BadHeader(number));
+    };
+    open_section(name, number, state, text, sections, order)
 }
 
 // A trimmed line that starts with another byte.
@@ -113,18 +106,17 @@ fn add_entry_line(
     state: State,
     text: &mut [u8],
     entries: &mut [usize],
-) -> Step
+) -> Result<State, Error>
     requires { (state.text + length line.now ≤ length text.old) × (2560 ≤ length entries.old) }
     ensures { TakesEntry (entry_kind line.now) number state text.old entries.old result text.new entries.new }
 {
-    let at = offset_of(b'=', line);
-    if line.len() <= at {
-        return Step::Refused(Error::NoEqualsSign(number));
-    }
-    let key = lines::trim_end(&line[0..at]);
+    let Some(at) = offset_of(b'=', line) else {
+        return Err(Error::NoEqualsSign(number));
+    };
+    let key = lines::trim_end(&line[..at]);
     let value = lines::trim_start(&line[at + 1..]);
     if !is_key(key) {
-        return Step::Refused(Error::BadKey(number));
+        return Err(Error::BadKey(number));
     }
     add_entry(key, value, number, state, text, entries)
 }
@@ -137,14 +129,14 @@ pub(crate) fn add_line(
     text: &mut [u8],
     sections: &mut [usize],
     entries: &mut [usize],
-    order: &mut [usize],
-) -> Step
-    requires { (state.text + length line.now ≤ length text.old) × (state.sections ≤ 64) × (128 ≤ length sections.old) × (2560 ≤ length entries.old) × (128 ≤ length order.old) }
+    order: &mut Order,
+) -> Result<State, Error>
+    requires { (state.text + length line.now ≤ length text.old) × (state.sections ≤ 64) × (128 ≤ length sections.old) × (2560 ≤ length entries.old) }
     ensures { TakesLine (kind (trimmed line.now)) number state text.old sections.old entries.old result text.new sections.new entries.new }
 {
     let trimmed = lines::trim(line);
     if trimmed.len() == 0 {
-        return Step::Go(state);
+        return Ok(state);
     }
     if trimmed[0] == b'[' {
         return add_header_line(&trimmed[1..], number, state, text, sections, order);

@@ -1,7 +1,6 @@
 // A file is read.
 use listing::{notation, print, print_refused, show, tables};
 use std::io;
-use table::ReadAnswer;
 
 // The longest buffers.
 const TEXT: usize = 65600;
@@ -67,15 +66,19 @@ fn read_into(
     entries: &mut [usize],
 ) -> io::Result<()> {
     match table::read(file, text, sections, entries) {
-        ReadAnswer::Accepted {
-            text: t,
-            sections: s,
-            entries: e,
-        } => {
-            tables::print_counts(rt, t, s, e)?;
-            tables::print_table(rt, text, t, sections, s, entries, e)
+        Ok(counts) => {
+            tables::print_counts(rt, counts.text, counts.sections, counts.entries)?;
+            tables::print_table(
+                rt,
+                text,
+                counts.text,
+                sections,
+                counts.sections,
+                entries,
+                counts.entries,
+            )
         }
-        ReadAnswer::Refused(e) => {
+        Err(e) => {
             print(rt, b"all ")?;
             show::print_kept(rt, tables::all_kept(text, sections, entries))?;
             print_refused(rt, e.number(), e.place())

@@ -22,5 +22,6 @@ returns-in-Accepted c = let a = c.args in
 
 pub returns-in-Refused : goal.returns-in-Refused
 returns-in-Refused c = let a = c.args in
-    file_refused a.file.now a.text.now a.sections.now a.entries.now (omega arith) (omega arith) (omega arith)
-    c.check_file.result c.check_file.ensures c.in-Refused.e c.in-Refused.is
+    rw c.from.ensures
+    (file_refused a.file.now a.text.now a.sections.now a.entries.now (omega arith) (omega arith) (omega arith)
+    c.check_file.result c.check_file.ensures c.in-Refused.e c.in-Refused.is)

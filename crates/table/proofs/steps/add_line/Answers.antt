@@ -1,7 +1,7 @@
 -- `add_line`: an empty line, a header, or an entry, by the first byte of the trimmed line.
 use Rattle.std.proofs.Common.{length, arith}
 use Rattle.lines.specs.Trim.{trimmed}
-use Rattle.table.specs.declared.state.Step.TheVariants.{Go}
+use Rattle.std.specs.Prelude.{Ok}
 use Rattle.table.proofs.TakingLines.{line_empty, line_header, line_entry, for_trimmed, trimmed-fits, rest_fits}
 use Rattle.table.proofs.steps.add_line.Goals as goal
 
@@ -9,14 +9,14 @@ pub returns-then-trimmed-eq0 : goal.returns-then-trimmed-eq0
 returns-then-trimmed-eq0 c = let a = c.args in
     let m = c.trim-trimmed.result.now in
     let l = trimmed a.line.now in
-    for_trimmed m l a.number a.state a.text.now a.sections.now a.entries.now (Go a.state) a.text.now a.sections.now a.entries.now
+    for_trimmed m l a.number a.state a.text.now a.sections.now a.entries.now (Ok a.state) a.text.now a.sections.now a.entries.now
     c.trim-trimmed.ensures (line_empty m a.number a.state a.text.now a.sections.now a.entries.now c.if-trimmed-eq0.true)
 
 pub add_header_line-requires : goal.add_header_line-requires
 add_header_line-requires c = let a = c.args in
     let m = c.trim-trimmed.result.now in
     let l = trimmed a.line.now in
-    (rest_fits m a.line.now a.state.text (length a.text.now) c.trim-trimmed.ensures c.requires.0, c.requires.1, c.requires.2, c.requires.4)
+    (rest_fits m a.line.now a.state.text (length a.text.now) c.trim-trimmed.ensures c.requires.0, c.requires.1, c.requires.2)
 
 pub returns-then-trimmed-eq91 : goal.returns-then-trimmed-eq91
 returns-then-trimmed-eq91 c = let a = c.args in

@@ -1,6 +1,6 @@
 -- `first_not_below`: what is left is inside the order.
 use Rattle.std.proofs.Common.{ℕ, zero, suc, ◌-◌, ◌*◌, ◌/◌, ◌≤◌, arith}
-use Rattle.table.proofs.order.first_not_below.Goals as goal
+use Rattle.table.proofs.order.Order.first_not_below.Goals as goal
 
 -- a product with 0 or 1
 times-bit : (h b : ℕ) → b ≤ 1 → h * b ≤ h
