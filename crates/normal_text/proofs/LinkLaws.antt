@@ -71,8 +71,8 @@ module _ (b : Lent) where
   pub link_start : Linking b.entry_count (replicate 64 None) (replicate 512 None)
   link_start = record {
     left = omega arith;
-    first_count = length-replicate 64 None;
-    next_count = length-replicate 512 None;
+    first_count = refl;
+    next_count = refl;
     linked = record {
       first = λ j h. rw (all_none 64 j) (ap (of_section pair_of j) (none_left said b.entry_count b.entry_count (omega arith)) ∙ of_none j);
       next = λ n h e rest q. nothing_here (none_left said b.entry_count n h) q;
@@ -143,3 +143,10 @@ module _ (b : Lent) where
       next_count = length-set nexts i (get_or firsts section None) ∙ l.next_count;
       linked = record { first = first_more; next = next_more };
     }
+
+  -- the same, as the loop counts
+  pub link_step : Sound b → b.section_count ≤ 64 → b.entry_count ≤ 512 → (i : ℕ) (firsts nexts : List (Option ℕ)) → Linking i firsts nexts → 0 < i
+      → Linking (i - 1) (set firsts (get_or b.entry_numbers (5 * (i - 1)) 0) (Some (i - 1))) (set nexts (i - 1) (get_or firsts (get_or b.entry_numbers (5 * (i - 1)) 0) None))
+  link_step s few many i firsts nexts l h =
+      let z : i ≡ suc (i - 1) = omega arith in
+      link_more s few many (i - 1) firsts nexts (subst (λ (x : ℕ). Linking x firsts nexts) z l)

@@ -44,5 +44,5 @@ module _ (b : Lent) (t : Decoded) (e : table_in b ≡ some t) where
       (λ i h. (entry_facts b.entry_count b.entry_numbers b.text b.section_count t.entries (table_halves b t e).entries i h).here)
 
   -- they say its sections
-  pub sections_are : sections_said b ≡ sections_from pair_of 0 t.names t.entries
-  sections_are = ap₂ (λ (xs : List Bytes) (es : List Entry). sections_from pair_of 0 xs es) names_are entries_are
+  pub sections_told : sections_said b ≡ sections_from pair_of 0 t.names t.entries
+  sections_told = ap₂ (λ (xs : List Bytes) (es : List Entry). sections_from pair_of 0 xs es) names_are entries_are

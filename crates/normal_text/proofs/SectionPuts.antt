@@ -86,7 +86,7 @@ abbrev pub left_from : (count : ℕ) → Option ℕ → ℕ
 left_from count None = 0
 left_from count (Some i) = count - i
 
-module _ (b : Lent) (j : ℕ) (firsts nexts : List (Option ℕ)) (linked : Linked (entries_said b) 0 firsts nexts) where
+module _ (b : Lent) (j : ℕ) where
   abbrev es : List Entry
   es = entries_said b
 
@@ -99,9 +99,13 @@ module _ (b : Lent) (j : ℕ) (firsts nexts : List (Option ℕ)) (linked : Linke
     pub leads : LeadsTo es j from next
     pub putting : Putting (entries_text j es) (entries_text j (drop from es)) d at end d'
 
-  pub entries_start : (d : Bytes) (at : ℕ) → j < length firsts → at + length (entries_text j es) ≤ length d
+  -- where it says one
+  pub at_some : {d : Bytes} {at : ℕ} {next : Option ℕ} {i end : ℕ} {d' : Bytes} → next ≡ Some i → EntriesPut d at next end d' → EntriesPut d at (Some i) end d'
+  at_some {d} {at} {next} {i} {end} {d'} q p = subst (λ (o : Option ℕ). EntriesPut d at o end d') q p
+
+  pub entries_start : (firsts nexts : List (Option ℕ)) (linked : Linked es 0 firsts nexts) (d : Bytes) (at : ℕ) → j < length firsts → at + length (entries_text j es) ≤ length d
       → EntriesPut d at (get_or firsts j None) at d
-  entries_start d at h f = record { from = 0; leads = linked.first j h; putting = putting_start (entries_text j es) d at f }
+  entries_start firsts nexts linked d at h f = record { from = 0; leads = linked.first j h; putting = putting_start (entries_text j es) d at f }
 
   module _ (d : Bytes) (at i end : ℕ) (d' : Bytes) (p : EntriesPut d at (Some i) end d') where
     -- it is an entry
@@ -130,23 +134,24 @@ module _ (b : Lent) (j : ℕ) (firsts nexts : List (Option ℕ)) (linked : Linke
           length-append (with_lf (entry_line (pair_of (said i)))) (entries_text j (drop (suc i) es)),
         )
 
-    next_leads : LeadsTo es j (suc i) (get_or nexts i None)
-    next_leads = rw own at (linked.next i (omega arith) (said i) (drop (suc i) es) entry_here)
-
     -- fewer are left then
     fewer : (o : Option ℕ) → LeadsTo es j (suc i) o → left_from b.entry_count o < b.entry_count - i
     fewer None h = omega (arith, entry-there)
     fewer (Some n) h = omega (arith, entry-there, h.later)
 
-    pub entries_fewer : left_from b.entry_count (get_or nexts i None) < b.entry_count - i
-    entries_fewer = fewer (get_or nexts i None) next_leads
+    module _ (firsts nexts : List (Option ℕ)) (linked : Linked es 0 firsts nexts) where
+      next_leads : LeadsTo es j (suc i) (get_or nexts i None)
+      next_leads = rw own at (linked.next i (omega arith) (said i) (drop (suc i) es) entry_here)
 
-    pub entries_more : (end' : ℕ) (d'' : Bytes) → Puts d' end (with_lf (entry_line (pair_of (said i)))) end' d'' → EntriesPut d at (get_or nexts i None) end' d''
-    entries_more end' d'' q = record {
-      from = suc i;
-      leads = next_leads;
-      putting = putting_more p.putting (with_lf (entry_line (pair_of (said i)))) (entries_text j (drop (suc i) es)) end' d'' entry_next q;
-    }
+      pub entries_fewer : left_from b.entry_count (get_or nexts i None) < b.entry_count - i
+      entries_fewer = fewer (get_or nexts i None) next_leads
+
+      pub entries_more : (end' : ℕ) (d'' : Bytes) → Puts d' end (with_lf (entry_line (pair_of (said i)))) end' d'' → EntriesPut d at (get_or nexts i None) end' d''
+      entries_more end' d'' q = record {
+        from = suc i;
+        leads = next_leads;
+        putting = putting_more p.putting (with_lf (entry_line (pair_of (said i)))) (entries_text j (drop (suc i) es)) end' d'' entry_next q;
+      }
 
   module _ (d : Bytes) (at : ℕ) (next : Option ℕ) (end : ℕ) (d' : Bytes) (p : EntriesPut d at next end d') where
     pub entries-length : length d' ≡ length d

@@ -12,6 +12,7 @@ const MOST_SECTIONS: usize = 64;
 const MOST_ENTRIES: usize = 512;
 
 // For each section the index of its first entry, and for each entry that of the next one of its section.
+#[derive(Drop)]
 pub(crate) struct Links {
     pub firsts: [Option<usize>; MOST_SECTIONS],
     pub nexts: [Option<usize>; MOST_ENTRIES],
