@@ -1,7 +1,8 @@
 // A call for the normal text.
 use listing::{print, print_number, print_refused, show, tables};
-use normal_text::NormalAnswer;
+use normal_text::Sizes;
 use std::io;
+use table::Error;
 
 // The longest buffers.
 const BYTES: usize = 65600;
@@ -52,26 +53,30 @@ fn call_with(
 // The answer, and what the buffers hold.
 fn print_answer(
     rt: &impl Print,
-    answer: NormalAnswer,
+    answer: Result<Sizes, Error>,
     text: &[u8],
     sections: &[usize],
     entries: &[usize],
     out: &[u8],
 ) -> io::Result<()> {
     match answer {
-        NormalAnswer::Accepted {
-            length,
-            text: t,
-            sections: s,
-            entries: e,
-        } => {
-            print_number(rt, length)?;
+        Ok(sizes) => {
+            let counts = sizes.table;
+            print_number(rt, sizes.length)?;
             print(rt, b" bytes, ")?;
-            tables::print_counts(rt, t, s, e)?;
-            tables::print_bytes(rt, b"  normal ", out, length)?;
-            tables::print_table(rt, text, t, sections, s, entries, e)
+            tables::print_counts(rt, counts.text, counts.sections, counts.entries)?;
+            tables::print_bytes(rt, b"  normal ", out, sizes.length)?;
+            tables::print_table(
+                rt,
+                text,
+                counts.text,
+                sections,
+                counts.sections,
+                entries,
+                counts.entries,
+            )
         }
-        NormalAnswer::Refused(e) => {
+        Err(e) => {
             print(rt, b"all ")?;
             show::print_kept(
                 rt,
