@@ -2,7 +2,6 @@
 ghost use Rattle.havtsulen.specs.Answers.{ReportsWellFormedLength, ReportsCheckFile, ReportsRead, ReportsNormalText};
 
 use crate::report::{REPORT_NUMBERS, SHORT_REPORT, tell};
-use normal_text::NormalAnswer;
 
 // The length of the longest well-formed start of a text.
 pub fn havtsulen_well_formed_length(text: &[u8], report: &mut [usize]) -> usize
@@ -54,13 +53,8 @@ pub fn havtsulen_normal_text(
     if report.len() < REPORT_NUMBERS {
         return SHORT_REPORT;
     }
-    match normal_text::normal_text(file, text, sections, entries, out) {
-        NormalAnswer::Accepted {
-            length,
-            text: t,
-            sections: s,
-            entries: k,
-        } => reply(0, length, t, s, k, report),
-        NormalAnswer::Refused(e) => reply(e.number(), e.place(), 0, 0, 0, report),
-    }
+    tell(
+        normal_text::normal_text(file, text, sections, entries, out),
+        report,
+    )
 }

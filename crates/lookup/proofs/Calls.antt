@@ -41,13 +41,6 @@ module _ (b : Lent) where
   unfolding table_in
   halves = there-together (names_in b.text b.section_count b.section_numbers) (entries_in b.text b.section_count b.entry_count b.entry_numbers)
 
-  pub sections_faulty : there (names_in b.text b.section_count b.section_numbers) ≡ false → false ≡ there (table_in b)
-  sections_faulty e = sym (halves ∙ rw e)
-
-  pub entries_decide : there (names_in b.text b.section_count b.section_numbers) ≡ true
-      → (r : Bool) → r ≡ there (entries_in b.text b.section_count b.entry_count b.entry_numbers) → r ≡ there (table_in b)
-  entries_decide e r q = q ∙ sym (halves ∙ rw e)
-
 -- ---- look-up
 
 module _ (b : Lent) (w : Which) (x k : Bytes) where

@@ -2,8 +2,8 @@
 pub mod Walking
 -- what the records of a table say
 pub mod Decoded
--- `find` over indexes from the back
-pub mod FromBack
+-- iterators over indexes
+pub mod Ranges
 -- the first and the last entry that is asked for
 pub mod Searching
 -- the calls

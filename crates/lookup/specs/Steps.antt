@@ -21,6 +21,22 @@ good_entry text m ns at =
     ltb (get_or ns at 0) m
     && (inside text (get_or ns (at + 1) 0) (get_or ns (at + 2) 0) && inside text (get_or ns (at + 3) 0) (get_or ns (at + 4) 0))
 
+-- the section with an index has a record that is not faulty
+unfoldable pub good_section : Lent → (j : ℕ) → Bool
+good_section b j = inside b.text (get_or b.section_numbers (2 * j) 0) (get_or b.section_numbers (2 * j + 1) 0)
+
+-- the same of an entry
+unfoldable pub good_record : Lent → (i : ℕ) → Bool
+good_record b i = good_entry b.text b.section_count b.entry_numbers (5 * i)
+
+-- the records of all sections are there, and none is faulty
+abbrev pub SectionsGood : Lent → Type 0
+SectionsGood b = (2 * b.section_count ≤ length b.section_numbers) × ((j : ℕ) → j < b.section_count → good_section b j ≡ true)
+
+-- the same of all entries
+abbrev pub EntriesGood : Lent → Type 0
+EntriesGood b = (5 * b.entry_count ≤ length b.entry_numbers) × ((i : ℕ) → i < b.entry_count → good_record b i ≡ true)
+
 -- what it says
 abbrev pub entry_of : Bytes → List ℕ → (at : ℕ) → Entry
 entry_of text ns at =

@@ -16,32 +16,28 @@ pub enum Which {
     Last,
 }
 
-// Whether a part that is inside the text is these bytes.
-fn is_part(bytes: &[u8], text: &[u8], start: usize, size: usize) -> bool
-    requires { start + size ≤ length text.now }
-    ensures { result ≡ equal bytes.now (part text.now start size) }
-{
-    lines::same(bytes, &text[start..start + size])
-}
-
 impl Lent<'_> {
+    // Whether a part that is inside the text is these bytes.
+    fn is_part(self, bytes: &[u8], start: usize, size: usize) -> bool
+        requires { start + size ≤ length self.text.now }
+        ensures { result ≡ equal bytes.now (part self.entry.text.now start size) }
+    {
+        lines::same(bytes, &self.text[start..start + size])
+    }
+
     // Whether the record from an index on is that of an entry with this section name and key. It is there, and so is its
     // section's; their parts are inside the text.
     fn is_record(self, section: &[u8], key: &[u8], at: usize) -> bool
         requires { EntryInside self.text.now self.sections.now self.entries.now at }
         ensures { result ≡ matches_at section.now key.now self.entry.text.now self.entry.sections.now self.entry.entries.now at }
     {
-        let section_at = 2 * self.entries[at];
-        is_part(key, self.text, self.entries[at + 1], self.entries[at + 2])
-            && is_part(
-                section,
-                self.text,
-                self.sections[section_at],
-                self.sections[section_at + 1],
-            )
+        let name_at = 2 * self.entries[at];
+        self.is_part(key, self.entries[at + 1], self.entries[at + 2])
+            && self.is_part(section, self.sections[name_at], self.sections[name_at + 1])
     }
 
     // Whether an entry of a table has this section name and key.
+    #[tactic(auto, unfolding(crate::specs::Steps::matches))]
     fn is_entry(self, section: &[u8], key: &[u8], index: usize) -> bool
         requires table { there (table_in (lent_of self)) ≡ true }
         requires index { index < self.entry_count }

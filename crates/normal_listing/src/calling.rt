@@ -1,7 +1,6 @@
 // A call for the normal text.
 use listing::tables::{Buffers, Counts};
-use listing::{print, print_refused, show, tables};
-use normal_text::NormalAnswer;
+use listing::{print, show, tables};
 use std::io;
 
 // The longest buffers.
@@ -47,25 +46,20 @@ fn call_with(
         entries,
     };
     match answer {
-        NormalAnswer::Accepted {
-            length,
-            text: t,
-            sections: s,
-            entries: e,
-        } => {
+        Ok(sizes) => {
             let counts = Counts {
-                text: t,
-                sections: s,
-                entries: e,
+                text: sizes.table.text,
+                sections: sizes.table.sections,
+                entries: sizes.table.entries,
             };
-            println!(rt; "{length} bytes, {counts}")?;
-            tables::print_part(rt, "normal", out, length)?;
+            println!(rt; "{} bytes, {counts}", sizes.length)?;
+            tables::print_part(rt, "normal", out, sizes.length)?;
             buffers.print(rt, counts)
         }
-        NormalAnswer::Refused(e) => {
+        Err(e) => {
             print(rt, b"all ")?;
             show::print_kept(rt, show::is_kept(out, 0) && buffers.all_kept())?;
-            print_refused(rt, e.number(), e.place())
+            println!(rt; "{e}")
         }
     }
 }

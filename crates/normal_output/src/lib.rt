@@ -2,7 +2,6 @@
 #![tactic(auto)]
 
 use listing::{print, print_refused, show};
-use normal_text::NormalAnswer;
 use std::io;
 
 // Writes the normal text to standard output, or `refused N at P`.
@@ -28,12 +27,7 @@ fn write_from(
     out: &mut [u8],
 ) -> io::Result<()> {
     match normal_text::normal_text(file, text, sections, entries, out) {
-        NormalAnswer::Accepted {
-            length,
-            text: _,
-            sections: _,
-            entries: _,
-        } => print(rt, show::front(out, length)),
-        NormalAnswer::Refused(e) => print_refused(rt, e.number(), e.place()),
+        Ok(sizes) => print(rt, show::front(out, sizes.length)),
+        Err(e) => print_refused(rt, e.number(), e.place()),
     }
 }

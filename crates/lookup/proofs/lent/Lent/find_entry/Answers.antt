@@ -4,7 +4,7 @@ use Rattle.std.proofs.lemmas.Iterator.{first_from_Range}
 use borrow.Author.Tests.{tests}
 use Rattle.lookup.specs.Decoding.{lent_of}
 use Rattle.lookup.specs.Steps.{matches}
-use Rattle.lookup.proofs.FromBack.{last_from_back}
+use Rattle.lookup.proofs.Ranges.{last_from_back}
 use Rattle.lookup.proofs.Searching.{first_of_range}
 use Rattle.lookup.proofs.lent.Lent.find_entry.Goals as goal
 

@@ -1,7 +1,6 @@
 -- `is_entry`: the entry's record is there.
 use native.Mathlib.Omega.{arith}
 use Rattle.lookup.specs.Decoding.{lent_of}
-use Rattle.lookup.specs.Steps.{matches}
 use Rattle.lookup.proofs.Searching.{inside_there}
 use Rattle.lookup.proofs.lent.Lent.is_entry.Goals as goal
 
@@ -10,7 +9,3 @@ overflow_mul-index c = omega (arith, (inside_there (lent_of c.args.self) c.requi
 
 pub is_record-requires : goal.is_record-requires
 is_record-requires c = inside_there (lent_of c.args.self) c.requires.table c.args.index c.requires.index
-
-pub returns : goal.returns
-unfolding matches
-returns c = c.is_record.ensures

@@ -1,8 +1,10 @@
--- `find` over the indexes below a number from the back, as `(0..n).rev().find(..)`: what it says of the numbers.
-use mathlib.Core.Path.{◌≡◌, refl, sym, ap, subst}
+-- What `all` and `find` over the indexes below a number say of the numbers: `(0..n).all(..)` and `(0..n).rev().find(..)`.
+use mathlib.Core.Path.{◌≡◌, refl, sym, ap, subst, ◌∙◌}
 use Prim.Native.Nat.{ℕ, zero, suc, ◌+◌, ◌-◌, ◌≤◌, ◌<◌}
 use native.Mathlib.Omega.{arith}
-use mathlib.Core.Bool.{Bool, true, false}
+use mathlib.Core.Bool.{Bool, true, false, true≢false}
+use lib.Dec.{leb}
+use borrow.Author.Tests.{leb-true, leb-false}
 use mathlib.Core.List.{List, [], ◌∷◌}
 use denote.Ref.{Bor}
 use denote.Param.Members.{Mut}
@@ -13,8 +15,46 @@ use Rattle.std.specs.declared.iter.Rev.{Rev}
 use Rattle.std.specs.Iterator.{Yields, YieldsThen}
 use Rattle.std.specs.Iterator.Adapters.{rev_steps, rev_source}
 use Rattle.std.specs.List.{FoldsTo}
-use Rattle.std.specs.Fn.{CalledAt}
+use Rattle.std.specs.Fn.{Called, CalledAt}
+use Rattle.std.proofs.iter.Yields.{nat_range_steps}
+use Rattle.lines.proofs.Bools.{by_cases}
 use Rattle.lookup.specs.Steps.{IsLast}
+
+-- ---- `all`
+
+module _ {F : Type 0} {g : Mut F (ℕ × Unit {0}) Bool} (f : F) (test : ℕ → Bool) (r : Bool)
+    (yes : (x : ℕ) (q : F) → Called g f (x, tt) true q → (q ≡ f) × (test x ≡ true)) (h : r ≡ true) where
+  abbrev Ends : Option ℕ → F → Type 0
+  Ends o j = MatchOption o (r ≡ true) (λ x. (r ≡ false) × ((q : F) × Called g j (x, tt) false q))
+
+  done : (s t u : Range ℕ) (o : Option ℕ) (j : F) → s ≡ t → nat_range_steps t o u → Ends o j
+      → (i : ℕ) → s.start ≤ i → i < s.end → test i ≡ true
+  done s t u None j e d c i l m =
+      let a : t.start ≡ s.start = sym (ap (λ (v : Range ℕ). v.start) e) in
+      let b : t.end ≡ s.end = sym (ap (λ (v : Range ℕ). v.end) e) in
+      absurd (omega (arith, d.1.0))
+  done s t u (Some x) j e d c i l m = absurd (true≢false (sym h ∙ c.0))
+
+  from_start : (xs : List ℕ) (s t u : Range ℕ) (o : Option ℕ) (j : F) → Yields nat_range_steps s xs t → nat_range_steps t o u
+      → FoldsTo (λ p x q. Called g p (x, tt) true q) f xs j → Ends o j
+      → (i : ℕ) → s.start ≤ i → i < s.end → test i ≡ true
+  from_start [] s t u o j y d l c i m n = done s t u o j y d c i m n
+  from_start (x ∷ xs) s t u o j y d l c i m n =
+      let v : Range ℕ = y.0 in
+      let k = yes x l.0 l.1 in
+      by_cases (leb i s.start)
+      (λ q. let e : x ≡ i = omega (arith, y.1.1.1, leb-true i s.start q) in subst (λ (a : ℕ). test a ≡ true) e k.1)
+      (λ q. from_start xs v t u o j y.2 d (subst (λ (w : F). FoldsTo (λ p a q. Called g p (a, tt) true q) w xs j) k.0 l.2) c i
+          (omega (arith, y.1.1.2, leb-false i s.start q)) (omega (arith, y.1.0)))
+
+  pub each_from_all : (n : ℕ) (u : Range ℕ)
+      → (xs : List ℕ) × (o : Option ℕ) × (j : F) × YieldsThen nat_range_steps (record { start = 0; end = n }) xs o u
+      × FoldsTo (λ p x q. Called g p (x, tt) true q) f xs j × Ends o j
+      → (i : ℕ) → i < n → test i ≡ true
+  each_from_all n u d i l =
+      from_start d.0 (record { start = 0; end = n }) d.3.0 u d.1 d.2 d.3.1 d.3.2 d.4 d.5 i (omega arith) l
+
+-- ---- `find` from the back
 
 -- a step from the back of a range
 abbrev pub back : Range ℕ → Option ℕ → Range ℕ → Type 0
