@@ -1,5 +1,6 @@
 // The report of a call: the four numbers at the front of a slice. It is part of the answer.
 ghost use Rattle.std.specs.Prelude.{◌≡◌, ◌≤◌, ℕ, List, length};
+ghost use Rattle.lines.specs.Buffers.{filled};
 ghost use Rattle.havtsulen.specs.Reports.{outcome_of, Reports};
 
 use lines::Refusal;
@@ -18,15 +19,27 @@ pub(crate) trait Told {
         ensures { result ≡ told self };
 }
 
+// Puts four numbers at the front of a report.
+fn put(numbers: [usize; 4], report: &mut [usize])
+    requires { 4 ≤ length report.old }
+    ensures { report.new ≡ filled numbers report.old }
+{
+    report[..4].copy_from_slice(&numbers);
+}
+
 // Answers a call: 0 and the numbers of what it has accepted, or the number of its refusal and the place of that.
 pub(crate) fn tell<T: Told, E: Refusal + Copy>(answer: Result<T, E>, report: &mut [usize]) -> usize
     requires { 4 ≤ length report.old }
     ensures { Reports T.told (outcome_of E.number_is E.place_is answer) report.old result report.new }
 {
-    let (number, numbers) = match answer {
-        Ok(accepted) => (0, accepted.numbers()),
-        Err(e) => (e.number(), [e.place(), 0, 0, 0]),
-    };
-    report[..REPORT_NUMBERS].copy_from_slice(&numbers);
-    number
+    match answer {
+        Ok(accepted) => {
+            put(accepted.numbers(), report);
+            0
+        }
+        Err(e) => {
+            put([e.place(), 0, 0, 0], report);
+            e.number()
+        }
+    }
 }
