@@ -1,4 +1,5 @@
 -- The calls of `read` on two files: the definitions compute, and the promise hands the outcome on.
+use Rattle.std.specs.Prelude.{Result}
 use mathlib.Core.Path.{◌≡◌, sym, ap, ◌∙◌}
 use Prim.Native.Nat.{ℕ}
 use native.Mathlib.Omega.{arith}
@@ -8,13 +9,14 @@ use Rattle.lines.specs.Text.{bytes}
 use Rattle.lines.specs.Answers.{Outcome, accepted, refused}
 use Rattle.table.specs.Tables.{Table, names, entries, verdict}
 use Rattle.table.specs.Contents.{text_of, records_from}
-use Rattle.table.specs.Answers.{Counts, read_means, counted, text_after, sections_after, entries_after, read_in}
-use Rattle.table.specs.declared.reader.ReadAnswer.{ReadAnswer}
+use Rattle.table.specs.Answers.{read_means, counted, text_after, sections_after, entries_after, read_in}
+use Rattle.table.specs.declared.error.Error.{Error}
+use Rattle.table.specs.declared.state.Counts.{Counts}
 use Rattle.table.proofs.Laws.{enough_space_decides}
 use Rattle.claims.specs.ReadCalls.{ReadCall}
 use Rattle.claims.specs.ExcludedReads.{ReadsNothing, two_sections, ReadsTwo, NoOneAnswer, CountsOfTable, RefusalOfFile}
 
-module _ (f : Bytes) (r : ReadAnswer) (c : ReadCall f r) where
+module _ (f : Bytes) (r : Result Counts Error) (c : ReadCall f r) where
   decided : read_in (length c.text) (length c.sections) (length c.entries) f ≡ verdict f
   decided = enough_space_decides _ _ _ f c.text_size c.sections_size c.entries_size
 

@@ -1,4 +1,5 @@
 -- The function that reads, looks up and asks for the value: what it answers and leaves, by the answers of the three calls.
+use Rattle.std.specs.Prelude.{Result, Ok, Err}
 use mathlib.Core.Path.{◌≡◌, refl, sym, ap, ◌∙◌}
 use Prim.Native.Nat.{ℕ, ◌+◌, ◌≤◌, ◌<◌}
 use native.Mathlib.Nat.{zero-add}
@@ -17,8 +18,7 @@ use Rattle.table.specs.Tables.{Table, and_then, verdict}
 use Rattle.table.specs.Answers.{number_of, place_of, error_means, read_means, counts_of, counted, Reads}
 use Rattle.table.specs.declared.error.Error.{Error}
 use Rattle.table.specs.declared.error.Error.TheVariants.{File}
-use Rattle.table.specs.declared.reader.ReadAnswer.{ReadAnswer}
-use Rattle.table.specs.declared.reader.ReadAnswer.TheVariants.{Accepted as ReadAccepted, Refused as ReadRefused}
+use Rattle.table.specs.declared.state.Counts.{Counts}
 use Rattle.table.proofs.Laws.{enough_space_decides}
 use Rattle.lookup.specs.Decoding.{Lent, lent}
 use Rattle.lookup.specs.Questions.{Part, index_in, value_in, part_in}
@@ -90,11 +90,11 @@ module _ (f : Bytes) (w : Which) (x k : Bytes) (out : Bytes) where
   unfolding look_up_in
   gets_short h = gets (refused 1 0) (rw (lt-ltb (length out) 65535 h)) (NotRead (File ShortBuffer)) out refl refl
 
-  module _ (h : 65535 ≤ length out) (text : Bytes) (sections entries : List ℕ) (r : ReadAnswer) (text' : Bytes) (sections' entries' : List ℕ)
+  module _ (h : 65535 ≤ length out) (text : Bytes) (sections entries : List ℕ) (r : Result Counts Error) (text' : Bytes) (sections' entries' : List ℕ)
       (p : Reads f text sections entries r text' sections' entries') where
     -- the file is refused
     pub gets_refused : 65535 ≤ length text → 128 ≤ length sections → 2560 ≤ length entries
-        → (e : Error) → r ≡ ReadRefused e → Gets f w x k out (NotRead e) out
+        → (e : Error) → r ≡ Err e → Gets f w x k out (NotRead e) out
     unfolding look_up_in and_then
     gets_refused a b c e q =
         let d = enough_space_decides (length text) (length sections) (length entries) f a b c in
@@ -103,10 +103,10 @@ module _ (f : Bytes) (w : Which) (x k : Bytes) (out : Bytes) where
         gets (error_means e) (rw (le-ltb (length out) 65535 h, o)) (NotRead e) out refl refl
 
     -- the file has a table
-    pub gets_asked : (n m j : ℕ) → r ≡ ReadAccepted n m j → (s : LookUpAnswer) (out' : Bytes)
-        → Asks (lent text' sections' m entries' j) w x k out s out' → Gets f w x k out s out'
+    pub gets_asked : (counts : Counts) → r ≡ Ok counts → (s : LookUpAnswer) (out' : Bytes)
+        → Asks (lent text' sections' counts.sections entries' counts.entries) w x k out s out' → Gets f w x k out s out'
     unfolding look_up_in look_up_lent and_then
-    gets_asked n m j q s out' a =
+    gets_asked counts q s out' a =
         let c : AcceptedRead f = record {
           text_before = text;
           sections_before = sections;
@@ -115,12 +115,12 @@ module _ (f : Bytes) (w : Which) (x k : Bytes) (out : Bytes) where
           sections = sections';
           entries = entries';
           answer = r;
-          counts = record { text = n; sections = m; entries = j };
+          counts = counts;
           promise = p;
           accepted_with = ap read_means q;
         } in
         let t = table_there f c in
-        gets (look_up_lent (lent text' sections' m entries' j) w x k)
+        gets (look_up_lent (lent text' sections' counts.sections entries' counts.entries) w x k)
         (rw (le-ltb (length out) 65535 h, t.1) (same_questions t.0 t.1 c))
         s out' a.answer a.new_out
       where

@@ -1,13 +1,14 @@
 -- Demand 3: what calls of `normal_text` leave behind, from what each of them promises and nothing else. That a file is
 -- accepted is `sections_in f ≡ accepted ss`, from its bytes alone; ss are its sections, each with its entries. A buffer is the
 -- rules' room, a value their joined text, a header their heading.
-use Rattle.std.specs.Prelude.{◌≡◌, ◌↔◌, ℕ, ◌≤◌, ◌<◌, List, length, take}
+use Rattle.std.specs.Prelude.{◌≡◌, ◌↔◌, ℕ, ◌≤◌, ◌<◌, List, length, take, Result}
 use Rattle.lines.specs.Bytes.{Bytes}
 use Rattle.lines.specs.Files.{size}
 use Rattle.lines.specs.Answers.{Outcome, accepted, refused}
 use Rattle.table.specs.Tables.{Table, verdict}
-use Rattle.table.specs.Answers.{Counts, counts_of, read_means}
-use Rattle.table.specs.declared.reader.ReadAnswer.{ReadAnswer}
+use Rattle.table.specs.Answers.{counts_of, read_means}
+use Rattle.table.specs.declared.error.Error.{Error}
+use Rattle.table.specs.declared.state.Counts.{Counts}
 use Rattle.normal_text.specs.Sections.{Pair, Section, sections_of, sections_in}
 use Rattle.normal_text.specs.NormalText.{normal_text}
 use Rattle.normal_text.specs.Answers.{Sizes, normal_means, Normalizes}
@@ -81,7 +82,7 @@ LeftIsAccepted = (f : Bytes) (ss : List (Section Pair)) → sections_in f ≡ ac
 -- sections
 abbrev pub LeftIsRead : Type 0
 LeftIsRead = (f : Bytes) (ss : List (Section Pair)) → sections_in f ≡ accepted ss → (c : Call f)
-    → (r : ReadAnswer) → ReadCall (left_by c) r → (t : Table) × (verdict (left_by c) ≡ accepted t) × (read_means r ≡ accepted (counts_of t)) × (sections_of t ≡ ss)
+    → (r : Result Counts Error) → ReadCall (left_by c) r → (t : Table) × (verdict (left_by c) ≡ accepted t) × (read_means r ≡ accepted (counts_of t)) × (sections_of t ≡ ss)
 
 -- every call on that text is accepted, and leaves that text itself: the same length, and the same bytes
 abbrev pub LeftIsItsOwn : Type 0

@@ -1,13 +1,14 @@
 -- Demand 2, look-up: in the buffers that an accepted read has left, with the counts of its answer, the calls find the
 -- entries of the file's table and hand back their values.
-use Rattle.std.specs.Prelude.{◌≡◌, ℕ, cond, List, ltb, length}
+use Rattle.std.specs.Prelude.{◌≡◌, ℕ, cond, List, ltb, length, Result}
 use Rattle.lines.specs.Bytes.{Bytes}
 use Rattle.lines.specs.Answers.{Outcome, accepted, refused}
 use Rattle.lines.specs.Buffers.{filled}
 use Rattle.table.specs.Tables.{Entry, Table, names, entries, and_then, verdict}
-use Rattle.table.specs.Answers.{Counts, read_means, Reads}
+use Rattle.table.specs.Answers.{read_means, Reads}
 use Rattle.table.specs.Answers as table
-use Rattle.table.specs.declared.reader.ReadAnswer.{ReadAnswer}
+use Rattle.table.specs.declared.error.Error.{Error}
+use Rattle.table.specs.declared.state.Counts.{Counts}
 use Rattle.lookup.specs.Decoding.{part, Lent, lent}
 use Rattle.lookup.specs.Questions.{indexes_from, asked, value_at, or_missing, Part, index_in, part_in}
 use Rattle.lookup.specs.Answers.{find_means, value_means, bytes_or, HandsBack}
@@ -42,7 +43,7 @@ pub record AcceptedRead (f : Bytes) : Type 0 where
   pub text : Bytes
   pub sections : List ℕ
   pub entries : List ℕ
-  pub answer : ReadAnswer
+  pub answer : Result Counts Error
   pub counts : Counts
   pub promise : Reads f text_before sections_before entries_before answer text sections entries
   pub accepted_with : read_means answer ≡ accepted counts

@@ -1,11 +1,12 @@
 -- Calls of `read`, as the statements about them take them.
-use Rattle.std.specs.Prelude.{ℕ, ◌≤◌, List, length}
+use Rattle.std.specs.Prelude.{ℕ, ◌≤◌, List, length, Result}
 use Rattle.lines.specs.Bytes.{Bytes}
 use Rattle.table.specs.Answers.{Reads}
-use Rattle.table.specs.declared.reader.ReadAnswer.{ReadAnswer}
+use Rattle.table.specs.declared.error.Error.{Error}
+use Rattle.table.specs.declared.state.Counts.{Counts}
 
 -- a call on this file, with buffers of the sizes that are asked for
-pub record ReadCall (f : Bytes) (r : ReadAnswer) : Type 0 where
+pub record ReadCall (f : Bytes) (r : Result Counts Error) : Type 0 where
   pub text : Bytes
   pub sections : List ℕ
   pub entries : List ℕ

@@ -5,7 +5,6 @@ ghost use Rattle.claims.specs.LookUps.{Gets};
 ghost use Rattle.claims.specs.Steps.{Asks};
 
 use lookup::{FindAnswer, Which};
-use table::ReadAnswer;
 
 #[derive(Clone, Copy)]
 pub enum LookUpAnswer {
@@ -71,11 +70,17 @@ pub fn read_then_find(
     let mut sections = [0usize; 128];
     let mut entries = [0usize; 2560];
     match table::read(file, &mut text, &mut sections, &mut entries) {
-        ReadAnswer::Accepted {
-            text: _,
-            sections: s,
-            entries: k,
-        } => find_then_value(section, key, which, &text, &sections, s, &entries, k, out),
-        ReadAnswer::Refused(e) => LookUpAnswer::NotRead(e),
+        Ok(counts) => find_then_value(
+            section,
+            key,
+            which,
+            &text,
+            &sections,
+            counts.sections,
+            &entries,
+            counts.entries,
+            out,
+        ),
+        Err(e) => LookUpAnswer::NotRead(e),
     }
 }

@@ -6,7 +6,6 @@ use listing::{print, print_refused, show};
 use lookup::{FindAnswer, Which};
 use std::env::{Env, FillError};
 use std::io;
-use table::ReadAnswer;
 
 fn main(rt: HostRuntime) -> io::Result<()> {
     let mut section = [0u8; 65536];
@@ -59,12 +58,17 @@ fn answer_from(
     entries: &mut [usize],
 ) -> io::Result<()> {
     match table::read(file, text, sections, entries) {
-        ReadAnswer::Accepted {
-            text: _,
-            sections: m,
-            entries: k,
-        } => print_value(rt, section, key, text, sections, m, entries, k),
-        ReadAnswer::Refused(e) => print_refused(rt, e.number(), e.place()),
+        Ok(counts) => print_value(
+            rt,
+            section,
+            key,
+            text,
+            sections,
+            counts.sections,
+            entries,
+            counts.entries,
+        ),
+        Err(e) => print_refused(rt, e.number(), e.place()),
     }
 }
 

@@ -1,4 +1,5 @@
 -- The calls on a whole file.
+use Rattle.std.specs.Prelude.{Result, Ok, Err}
 use mathlib.Core.Path.{◌≡◌, refl, sym, ap, subst, ◌∙◌}
 use Prim.Native.Nat.{ℕ, ◌≤◌, ◌<◌}
 use mathlib.Core.List.{List}
@@ -14,8 +15,7 @@ use Rattle.lines.specs.declared.file.Check.TheVariants.{Accepted as Checked, Ref
 use Rattle.table.specs.Tables.{Table}
 use Rattle.table.specs.Answers.{number_of, place_of, counted, read_means, TableLeft, read_in, Reads}
 use Rattle.table.specs.declared.error.Error.{Error}
-use Rattle.table.specs.declared.reader.ReadAnswer.{ReadAnswer}
-use Rattle.table.specs.declared.reader.ReadAnswer.TheVariants.{Accepted as ReadAccepted, Refused as ReadRefused}
+use Rattle.table.specs.declared.state.Counts.{Counts}
 use Rattle.table.proofs.ReadCalls.{table_kept}
 use Rattle.normal_text.specs.Answers.{sized, normal_means, out_after, normal_in, Normalizes}
 use Rattle.normal_text.specs.declared.normal.NormalAnswer.{NormalAnswer}
@@ -73,7 +73,7 @@ module _ (f text : Bytes) (sections entries report : List ℕ) where
         left = table_kept _ 1 0 e text sections entries;
       }
 
-  module _ (h : 4 ≤ length report) (a : ReadAnswer) (text' : Bytes) (sections' entries' : List ℕ)
+  module _ (h : 4 ≤ length report) (a : Result Counts Error) (text' : Bytes) (sections' entries' : List ℕ)
       (made : Reads f text sections entries a text' sections' entries') (r : ℕ) (report' : List ℕ) where
     read_same : read_outcome ≡ with_report report read_outcome
     read_same = sym (with_long report read_outcome h)
@@ -90,12 +90,12 @@ module _ (f text : Bytes) (sections entries report : List ℕ) where
           left = subst (λ (o : Outcome Table). TableLeft o text sections entries text' sections' entries') read_same made.left;
         }
 
-    pub read_accepted : (n m k : ℕ) → a ≡ ReadAccepted n m k → Replies 0 n m k 0 report r report'
+    pub read_accepted : (k : Counts) → a ≡ Ok k → Replies 0 k.text k.sections k.entries 0 report r report'
         → ReportsRead f text sections entries report r text' sections' entries' report'
-    read_accepted n m k known p =
-        read_leaves (accepts counts_told _ report h r report' _ (ap read_means (sym known) ∙ read_means_lem) n m k 0 refl p)
+    read_accepted k known p =
+        read_leaves (accepts counts_told _ report h r report' _ (ap read_means (sym known) ∙ read_means_lem) k.text k.sections k.entries 0 refl p)
 
-    pub read_refused : (x : Error) → a ≡ ReadRefused x → (number place : ℕ) → number ≡ number_of x → place ≡ place_of x
+    pub read_refused : (x : Error) → a ≡ Err x → (number place : ℕ) → number ≡ number_of x → place ≡ place_of x
         → Replies number place 0 0 0 report r report' → ReportsRead f text sections entries report r text' sections' entries' report'
     read_refused x known number place i j p =
         read_leaves (refuses counts_told _ report h r report' _ _ (ap read_means (sym known) ∙ read_means_lem) (table_number x) number place i j p)

@@ -6,7 +6,8 @@ use Rattle.lines.specs.Answers.{Outcome, accepted}
 use Rattle.lines.specs.Utf8.{longest_start}
 use Rattle.lines.specs.Files.{checked_file}
 use Rattle.table.specs.Tables.{Table}
-use Rattle.table.specs.Answers.{Counts, counted, TableLeft, read_in}
+use Rattle.table.specs.declared.state.Counts.{Counts}
+use Rattle.table.specs.Answers.{counted, TableLeft, read_in}
 use Rattle.lookup.specs.Decoding.{Lent, part}
 use Rattle.lookup.specs.Questions.{Part, index_in, value_in, part_in}
 use Rattle.lookup.specs.Answers.{bytes_or, part_or}

@@ -4,7 +4,6 @@ ghost use Rattle.havtsulen.specs.Answers.{ReportsWellFormedLength, ReportsCheckF
 use crate::report::{REPORT_NUMBERS, SHORT_REPORT, reply};
 use lines::Check;
 use normal_text::NormalAnswer;
-use table::ReadAnswer;
 
 // The length of the longest well-formed start of a text.
 pub fn havtsulen_well_formed_length(text: &[u8], report: &mut [usize]) -> usize
@@ -43,12 +42,8 @@ pub fn havtsulen_read(
         return SHORT_REPORT;
     }
     match table::read(file, text, sections, entries) {
-        ReadAnswer::Accepted {
-            text: t,
-            sections: s,
-            entries: k,
-        } => reply(0, t, s, k, 0, report),
-        ReadAnswer::Refused(e) => reply(e.number(), e.place(), 0, 0, 0, report),
+        Ok(counts) => reply(0, counts.text, counts.sections, counts.entries, 0, report),
+        Err(e) => reply(e.number(), e.place(), 0, 0, 0, report),
     }
 }
 

@@ -3,7 +3,6 @@ use crate::answers;
 use listing::{notation, print, print_refused, show};
 use lookup::Which;
 use std::io;
-use table::ReadAnswer;
 
 // The longest file.
 const FILE: usize = 65600;
@@ -54,12 +53,19 @@ fn read_into(
     entries: &mut [usize],
 ) -> io::Result<()> {
     match table::read(file, text, sections, entries) {
-        ReadAnswer::Accepted {
-            text: _,
-            sections: m,
-            entries: k,
-        } => answers::find(rt, which, section, key, text, sections, m, entries, k, true),
-        ReadAnswer::Refused(e) => {
+        Ok(counts) => answers::find(
+            rt,
+            which,
+            section,
+            key,
+            text,
+            sections,
+            counts.sections,
+            entries,
+            counts.entries,
+            true,
+        ),
+        Err(e) => {
             print(rt, b"not read, ")?;
             print_refused(rt, e.number(), e.place())
         }

@@ -1,4 +1,5 @@
 -- A call of `normal_text`: what the read call has left is the file's table, whose normal text fits; and what is then put.
+use Rattle.std.specs.Prelude.{Result, Ok, Err}
 use mathlib.Core.Path.{◌≡◌, refl, sym, ap, subst, ◌∙◌}
 use Prim.Native.Nat.{ℕ, ◌≤◌, ◌<◌}
 use native.Mathlib.Nat.{zero-add}
@@ -17,11 +18,10 @@ use Rattle.lines.proofs.Bools.{by_cases}
 use Rattle.lines.proofs.Outcomes.{not_accepted}
 use Rattle.table.specs.Tables.{Table, entries, verdict}
 use Rattle.table.specs.Contents.{text_of, section_numbers, entry_numbers}
-use Rattle.table.specs.Answers.{number_of, place_of, Counts, counts_of, counted, text_after, sections_after, entries_after, ReadLeaves, read_in, Reads}
+use Rattle.table.specs.Answers.{number_of, place_of, counts_of, counted, text_after, sections_after, entries_after, ReadLeaves, read_in, Reads}
 use Rattle.table.specs.declared.error.Error.{Error}
 use Rattle.table.specs.declared.error.Error.TheVariants.{File}
-use Rattle.table.specs.declared.reader.ReadAnswer.{ReadAnswer}
-use Rattle.table.specs.declared.reader.ReadAnswer.TheVariants.{Accepted as ReadAccepted, Refused as ReadRefused}
+use Rattle.table.specs.declared.state.Counts.{Counts}
 use Rattle.table.proofs.Laws.{tables_fit}
 use Rattle.table.proofs.ReadCalls.{table_kept}
 use Rattle.lookup.specs.Decoding.{lent, table_in}
@@ -69,16 +69,19 @@ same_lent p q r s u = rw (p, q, r, s, u)
 
 -- ---- a read call that was accepted: d, e and g are the buffers before it
 
-module _ (f d : Bytes) (e g : List ℕ) (r : ReadAnswer) (text : Bytes) (sections numbers : List ℕ)
-    (read : Reads f d e g r text sections numbers) (n m k : ℕ) (known : r ≡ ReadAccepted n m k) where
+module _ (f d : Bytes) (e g : List ℕ) (r : Result Counts Error) (text : Bytes) (sections numbers : List ℕ)
+    (read : Reads f d e g r text sections numbers) (counts : Counts) (known : r ≡ Ok counts) where
   abbrev outcome : Outcome Table
   outcome = read_in (length d) (length e) (length g) f
 
-  promise : Reads f d e g (ReadAccepted n m k) text sections numbers
-  promise = subst (λ (a : ReadAnswer). Reads f d e g a text sections numbers) known read
+  promise : Reads f d e g (Ok counts) text sections numbers
+  promise = subst (λ (a : Result Counts Error). Reads f d e g a text sections numbers) known read
 
-  abbrev counts : Counts
-  counts = record { text = n; sections = m; entries = k }
+  abbrev m : ℕ
+  m = counts.sections
+
+  abbrev k : ℕ
+  k = counts.entries
 
   there : (t : Table) × (outcome ≡ accepted t) × (counts ≡ counts_of t)
   there = which_table outcome counts promise.answer
@@ -137,11 +140,11 @@ module _ (f d : Bytes) (e g : List ℕ) (r : ReadAnswer) (text : Bytes) (section
   -- what stands in the four buffers when it was put
   pub written_out : (out : Bytes) → 65535 ≤ length out → (l : ℕ) (out' : Bytes)
       → Puts out 0 (normal_text (sections_at text sections m numbers k)) l out'
-      → Normalizes f d e g out (Accepted l n m k) text sections numbers out'
+      → Normalizes f d e g out (Accepted l counts.text m k) text sections numbers out'
   written_out out h l out' p =
       let o : normal_in (length d) (length e) (length g) (length out) f ≡ accepted t = space_decides (length d) (length e) (length g) (length out) f h ∙ there.1 in
       let long : l ≡ length (normal_of t) = omega (arith, p.behind, ap length said) in
-      subst (λ (v : Outcome Table). NormalLeaves v d e g out (Accepted l n m k) text sections numbers out') (sym o)
+      subst (λ (v : Outcome Table). NormalLeaves v d e g out (Accepted l counts.text m k) text sections numbers out') (sym o)
       (record {
         answer = rw long (ap (λ (c : Counts). accepted (record { length = length (normal_of t); table = c })) there.2);
         left = record { new_text = text_is; new_sections = sections_are; new_entries = entries_are };
@@ -151,14 +154,14 @@ module _ (f d : Bytes) (e g : List ℕ) (r : ReadAnswer) (text : Bytes) (section
 -- ---- a read call that was refused
 
 -- the refusal is that of the call, and nothing has changed
-pub read_refused : (f d : Bytes) (e g : List ℕ) (r : ReadAnswer) (text : Bytes) (sections numbers : List ℕ) → Reads f d e g r text sections numbers
-    → (k : Error) → r ≡ ReadRefused k → (out : Bytes) → 65535 ≤ length out → Normalizes f d e g out (Refused k) text sections numbers out
+pub read_refused : (f d : Bytes) (e g : List ℕ) (r : Result Counts Error) (text : Bytes) (sections numbers : List ℕ) → Reads f d e g r text sections numbers
+    → (k : Error) → r ≡ Err k → (out : Bytes) → 65535 ≤ length out → Normalizes f d e g out (Refused k) text sections numbers out
 read_refused f d e g r text sections numbers read k known out h =
     subst (λ (v : Outcome Table). NormalLeaves v d e g out (Refused k) text sections numbers out)
     (sym (space_decides (length d) (length e) (length g) (length out) f h))
-    (go (read_in (length d) (length e) (length g) f) (subst (λ (a : ReadAnswer). Reads f d e g a text sections numbers) known read))
+    (go (read_in (length d) (length e) (length g) f) (subst (λ (a : Result Counts Error). Reads f d e g a text sections numbers) known read))
   where
-    go : (o : Outcome Table) → ReadLeaves o d e g (ReadRefused k) text sections numbers → NormalLeaves o d e g out (Refused k) text sections numbers out
+    go : (o : Outcome Table) → ReadLeaves o d e g (Err k) text sections numbers → NormalLeaves o d e g out (Refused k) text sections numbers out
     go (accepted t) p = not_accepted (number_of k) (place_of k) (counts_of t) p.answer
     go (refused n q) p = record {
       answer = cc p.answer;

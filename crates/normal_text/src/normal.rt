@@ -7,7 +7,7 @@ ghost use Rattle.normal_text.specs.Steps.{sections_at, NamePartsInside, EntryPar
 
 use crate::links::link;
 use crate::writer::put_sections;
-use table::{Error, ReadAnswer};
+use table::Error;
 
 #[derive(Clone, Copy)]
 pub enum NormalAnswer {
@@ -72,19 +72,22 @@ pub fn normal_text(
         return NormalAnswer::Refused(Error::File(lines::Error::ShortBuffer));
     }
     match table::read(file, text, sections, entries) {
-        ReadAnswer::Accepted {
-            text: t,
-            sections: m,
-            entries: k,
-        } => {
-            let length = put_table(text, sections, m, entries, k, out);
+        Ok(counts) => {
+            let length = put_table(
+                text,
+                sections,
+                counts.sections,
+                entries,
+                counts.entries,
+                out,
+            );
             NormalAnswer::Accepted {
                 length,
-                text: t,
-                sections: m,
-                entries: k,
+                text: counts.text,
+                sections: counts.sections,
+                entries: counts.entries,
             }
         }
-        ReadAnswer::Refused(e) => NormalAnswer::Refused(e),
+        Err(e) => NormalAnswer::Refused(e),
     }
 }

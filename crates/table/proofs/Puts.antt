@@ -1,12 +1,13 @@
 -- One event more in the buffers: its text behind the text, its record behind the records, and its counts.
-use Rattle.std.proofs.Common.{◌≡◌, ℕ, ◌+◌, ◌*◌, ◌≤◌, List, [], ◌∷◌, ◌++◌, length, sym, ap, ◌∙◌, subst, append-nil, zero-add, arith, length-append}
+use Rattle.std.proofs.Common.{◌≡◌, ℕ, ◌+◌, ◌*◌, ◌≤◌, List, [], ◌∷◌, ◌++◌, length, refl, sym, ap, ◌∙◌, append-nil, zero-add, arith, length-append}
 use mathlib.Core.Option.{none, some}
 use Rattle.lines.specs.Bytes.{Bytes}
 use Rattle.lines.specs.Buffers.{filled, put}
 use Rattle.lines.proofs.Buffers.{filled_put, put-put}
 use Rattle.table.specs.Tables.{entry_in, Event, new_section, new_entry, Table, with, names, entries, index_of}
-use Rattle.table.specs.Contents.{event_text, text_of, section_record, entry_record, records_from}
-use Rattle.table.specs.Steps.{current_of, state_of, SectionPut, EntryPut, Held}
+use Rattle.table.specs.Contents.{event_text, text_of, section_record, entry_record, records_from, section_numbers, entry_numbers}
+use Rattle.table.specs.Steps.{current_of, state_of, SectionPut, EntryPut, Holds}
+use Rattle.table.specs.declared.builder.Builder.{Builder}
 use Rattle.table.specs.declared.state.State.{State}
 use Rattle.table.proofs.Events.{names_section, names-entry, entries_section, entries-entry, text_of_snoc, text_length, records_snoc, sections_length, entries-length}
 use Rattle.table.proofs.TableLaws.{apart_snoc}
@@ -39,7 +40,7 @@ same_counts a a' b b' n n' c c' p q r s = rw (p, q, r, s)
 
 -- ---- a section
 
-module _ (t : Table) (d : Bytes) (e : List ℕ) (x : Bytes) (new : index_of x (names t.events) ≡ none) where
+module _ (t : Table) (d : Bytes) (e g : List ℕ) (x : Bytes) (new : index_of x (names t.events) ≡ none) where
   section_state : record {
     text = length (text_of t.events) + length x;
     sections = length (names t.events) + 1;
@@ -53,24 +54,31 @@ module _ (t : Table) (d : Bytes) (e : List ℕ) (x : Bytes) (new : index_of x (n
       (sym (ap length (entries_section t.events x)))
       (omega arith)
 
-  pub section_held : (s : State) (text : Bytes) (sections : List ℕ) → Held section_record t s d text e sections
-      → (r : State) (text' : Bytes) (sections' : List ℕ) → SectionPut x s text sections r text' sections'
-      → Held section_record (with t (new_section x) (length (names t.events))) r d text' e sections'
-  section_held s text sections h r text' sections' p =
-      let q : SectionPut x (state_of t) (filled (text_of t.events) d) (filled (records_from section_record 0 t.events) e) r text' sections' =
-      subst (λ (z : List ℕ). SectionPut x (state_of t) (filled (text_of t.events) d) z r text' sections') h.numbers_are
-      (subst (λ (z : Bytes). SectionPut x (state_of t) z sections r text' sections') h.text_is
-      (subst (λ (z : State). SectionPut x z text sections r text' sections') h.state p)) in
+  pub section_held : (b b' : Builder) → Holds t b d e g → SectionPut x b b'
+      → Holds (with t (new_section x) (length (names t.events))) b' d e g
+  section_held b b' h p =
       record {
         apart = rw names_section (apart_snoc (names t.events) [] x h.apart new);
-        state = q.state ∙ section_state;
-        text_is = q.text_put ∙ text_more t.events (new_section x) d;
-        numbers_are = q.numbers_put ∙ numbers_more t.events (new_section x) section_record e _ (sym (sections_length 0 t.events));
+        state =
+            p.state
+            ∙ ap (λ (z : State). record { text = z.text + length x; sections = z.sections + 1; entries = z.entries; current = z.sections + 1 }) h.state
+            ∙ section_state;
+        text_is =
+            p.text_put ∙ ap (λ (z : Bytes). put z b.state.text x) h.text_is
+            ∙ ap (λ (z : State). put (filled (text_of t.events) d) z.text x) h.state
+            ∙ text_more t.events (new_section x) d;
+        sections_are =
+            p.numbers_put
+            ∙ ap (λ (z : List ℕ). put z (2 * b.state.sections) (b.state.text ∷ length x ∷ [])) h.sections_are
+            ∙ ap (λ (z : State). put (filled (section_numbers t.events) e) (2 * z.sections) (z.text ∷ length x ∷ [])) h.state
+            ∙ numbers_more t.events (new_section x) section_record e _ (sym (sections_length 0 t.events));
+        entries_are =
+            p.entries_kept ∙ h.entries_are ∙ ap (λ (z : List ℕ). filled z g) (sym (numbers_kept t.events (new_section x) entry_record refl));
       }
 
 -- ---- an entry
 
-module _ (t : Table) (d : Bytes) (e : List ℕ) (i : ℕ) (k v : Bytes) (o : t.current ≡ some i) where
+module _ (t : Table) (d : Bytes) (e g : List ℕ) (i : ℕ) (k v : Bytes) (o : t.current ≡ some i) where
   entry_state : record {
     text = length (text_of t.events) + length k + length v;
     sections = length (names t.events);
@@ -84,24 +92,26 @@ module _ (t : Table) (d : Bytes) (e : List ℕ) (i : ℕ) (k v : Bytes) (o : t.c
       (sym (ap length (entries-entry t.events (entry_in i k v)) ∙ length-append (entries t.events) (entry_in i k v ∷ [])))
       (ap current_of o)
 
-  pub entry-held : (s : State) (text : Bytes) (numbers : List ℕ) → Held entry_record t s d text e numbers → s.text ≤ length text
-      → (r : State) (text' : Bytes) (numbers' : List ℕ) → EntryPut i k v s text numbers r text' numbers'
-      → Held entry_record (with t (new_entry (entry_in i k v)) i) r d text' e numbers'
-  entry-held s text numbers h l r text' numbers' p =
-      let m : put (put text s.text k) (s.text + length k) v ≡ put text s.text (k ++ v) = put-put text s.text k v l in
-      let q : text' ≡ put (filled (text_of t.events) d) (length (text_of t.events)) (k ++ v) =
-      p.text_put ∙ m ∙ ap (λ (z : Bytes). put z s.text (k ++ v)) h.text_is
-      ∙ ap (λ (z : State). put (filled (text_of t.events) d) z.text (k ++ v)) h.state in
-      let n : numbers' ≡ put (filled (records_from entry_record 0 t.events) e) (5 * length (entries t.events)) (entry_record (length (text_of t.events)) (new_entry (entry_in i k v))) =
-      p.numbers_put
-      ∙ ap (λ (z : List ℕ). put z (5 * s.entries) (i ∷ s.text ∷ length k ∷ (s.text + length k) ∷ length v ∷ [])) h.numbers_are
-      ∙ ap (λ (z : State). put (filled (records_from entry_record 0 t.events) e) (5 * z.entries) (i ∷ z.text ∷ length k ∷ (z.text + length k) ∷ length v ∷ [])) h.state in
+  pub entry-held : (b b' : Builder) → Holds t b d e g → b.state.text ≤ length b.text → EntryPut i k v b b'
+      → Holds (with t (new_entry (entry_in i k v)) i) b' d e g
+  entry-held b b' h l p =
       record {
         apart = rw names-entry h.apart;
         state =
             p.state
             ∙ ap (λ (z : State). record { text = z.text + length k + length v; sections = z.sections; entries = z.entries + 1; current = z.current }) h.state
             ∙ entry_state;
-        text_is = q ∙ text_more t.events (new_entry (entry_in i k v)) d;
-        numbers_are = n ∙ numbers_more t.events (new_entry (entry_in i k v)) entry_record e _ (sym (entries-length 0 t.events));
+        text_is =
+            p.text_put ∙ put-put b.text b.state.text k v l
+            ∙ ap (λ (z : Bytes). put z b.state.text (k ++ v)) h.text_is
+            ∙ ap (λ (z : State). put (filled (text_of t.events) d) z.text (k ++ v)) h.state
+            ∙ text_more t.events (new_entry (entry_in i k v)) d;
+        sections_are =
+            p.sections_kept ∙ h.sections_are
+            ∙ ap (λ (z : List ℕ). filled z e) (sym (numbers_kept t.events (new_entry (entry_in i k v)) section_record refl));
+        entries_are =
+            p.numbers_put
+            ∙ ap (λ (z : List ℕ). put z (5 * b.state.entries) (i ∷ b.state.text ∷ length k ∷ (b.state.text + length k) ∷ length v ∷ [])) h.entries_are
+            ∙ ap (λ (z : State). put (filled (entry_numbers t.events) g) (5 * z.entries) (i ∷ z.text ∷ length k ∷ (z.text + length k) ∷ length v ∷ [])) h.state
+            ∙ numbers_more t.events (new_entry (entry_in i k v)) entry_record g _ (sym (entries-length 0 t.events));
       }

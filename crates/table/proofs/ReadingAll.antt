@@ -1,6 +1,6 @@
 -- Lines read one after another. What the loop keeps: the buffers hold a table, and the lines from the cursor on bring
 -- to it what all lines bring to the empty one.
-use Rattle.std.proofs.Common.{◌≡◌, ℕ, ◌≤◌, List, length, sym, refl, ap, ◌∙◌, subst, arith}
+use Rattle.std.proofs.Common.{◌≡◌, ◌≤◌, [], length, sym, refl, ap, ◌∙◌, arith}
 use Rattle.lines.specs.Bytes.{Bytes}
 use Rattle.lines.specs.Lines.{logical}
 use Rattle.lines.specs.Cursors.{first_cursor, logical_from}
@@ -10,89 +10,58 @@ use Rattle.table.specs.Tables.{Table, empty_table, names, run}
 use Rattle.table.specs.Contents.{text_of, records_from}
 use Rattle.table.specs.Answers.{error_means}
 use Rattle.table.specs.Laws.{Sized}
-use Rattle.table.specs.Steps.{state_of, Holds, LineRead, TurnTaken, answer_of, ReadInto}
+use Rattle.table.specs.Steps.{state_of, Holds, LineRead, AllRead}
 use Rattle.table.specs.declared.error.Error.{Error}
 use Rattle.table.specs.declared.state.State.{State}
-use Rattle.table.specs.declared.reader.Progress.{Progress}
-use Rattle.table.specs.declared.reader.Turn.{Turn}
-use Rattle.table.specs.declared.reader.Turn.TheVariants.{Go, End, Refused}
-use Rattle.table.specs.declared.reader.ReadAnswer.{ReadAnswer}
+use Rattle.table.specs.declared.builder.Builder.{Builder}
 use Rattle.table.proofs.Sizes.{step-sized, sized_more, empty_sized}
 use Rattle.table.proofs.ReadingLines.{run_nil, run_more}
 
--- d, e and g are the buffers as they were
-pub record Reading (f d : Bytes) (e g : List ℕ) (text : Bytes) (sections entries : List ℕ) (p : Progress) : Type 0 where
+-- what the loop keeps; a is the table before the first line
+pub record Reading (f : Bytes) (a b : Builder) (c : Cursor) : Type 0 where
   pub table : Table
-  pub so_far : run empty_table (logical f) ≡ run table (logical_from f p.cursor)
-  pub holds : Holds table p.state d text e sections g entries
-  pub sized : Sized p.cursor.offset table
-  pub inside : p.cursor.offset ≤ length f
-  pub same_text : length text ≡ length d
-  pub same_sections : length sections ≡ length e
-  pub same_entries : length entries ≡ length g
+  pub so_far : run empty_table (logical f) ≡ run table (logical_from f c)
+  pub holds : Holds table b a.text a.sections a.entries
+  pub sized : Sized c.offset table
+  pub inside : c.offset ≤ length f
 
-module _ (f d : Bytes) (e g : List ℕ) where
-  empty_holds : Holds empty_table (state_of empty_table) d d e e g g
+module _ (f : Bytes) (a : Builder) where
+  pub reading_start : (c : Cursor) → c ≡ first_cursor → a.state ≡ state_of empty_table → Reading f a a c
   unfolding names text_of records_from
-  empty_holds = record { apart = tt; state = refl; text_is = refl; sections_are = refl; entries_are = refl }
-
-  pub reading_start : (c : Cursor) (s : State) → c ≡ first_cursor → s ≡ state_of empty_table
-      → Reading f d e g d e g (record { cursor = c; state = s })
-  reading_start c s p q =
+  reading_start c p q =
       record {
         table = empty_table;
         so_far = ap (run empty_table) (sym (ap (logical_from f) p ∙ reads_all f));
-        holds = subst (λ (z : State). Holds empty_table z d d e e g g) (sym q) empty_holds;
+        holds = record { apart = tt; state = q; text_is = refl; sections_are = refl; entries_are = refl };
         sized = sized_more 0 c.offset empty_table (omega arith) empty_sized;
         inside = omega (arith, ap (λ (z : Cursor). z.offset) p);
-        same_text = refl;
-        same_sections = refl;
-        same_entries = refl;
       }
 
-  module _ (text : Bytes) (sections entries : List ℕ) (p : Progress) (r : Reading f d e g text sections entries p) where
+  module _ (b : Builder) (c : Cursor) (r : Reading f a b c) where
     -- there is room for a line
-    pub text_below : p.state.text ≤ p.cursor.offset
+    pub text_below : b.state.text ≤ c.offset
     text_below = omega (arith, ap (λ (z : State). z.text) r.holds.state, r.sized.text)
 
-    pub sections_below : p.state.sections ≤ 64
-    sections_below = omega (arith, ap (λ (z : State). z.sections) r.holds.state, r.sized.few_sections)
-
-    module _ (text' : Bytes) (sections' entries' : List ℕ) (t : Turn)
-        (k : TurnTaken f p r.table d text' e sections' g entries' t) where
-      pub line_read : (q : Progress) → t ≡ Go q → LineRead f p r.table d text' e sections' g entries' q
-      line_read q w = subst (TurnTaken f p r.table d text' e sections' g entries') w k
-
-      pub reading_more : (q : Progress) → t ≡ Go q → length text' ≡ length text → length sections' ≡ length sections → length entries' ≡ length entries
-          → Reading f d e g text' sections' entries' q
-      reading_more q w x y z =
-          let l = line_read q w in
+    module _ (b' : Builder) where
+      pub reading_more : (q : Cursor) → LineRead f c r.table a.text a.sections a.entries q b' → Reading f a b' q
+      reading_more q l =
           record {
             table = l.table;
-            so_far = r.so_far ∙ ap (run r.table) l.view ∙ run_more r.table l.table l.line (logical_from f q.cursor) l.outcome;
+            so_far = r.so_far ∙ ap (run r.table) l.view ∙ run_more r.table l.table l.line (logical_from f q) l.outcome;
             holds = l.holds;
-            sized = sized_more _ q.cursor.offset l.table l.shorter (step-sized p.cursor.offset r.table l.table l.line r.sized l.outcome);
+            sized = sized_more _ q.offset l.table l.shorter (step-sized c.offset r.table l.table l.line r.sized l.outcome);
             inside = l.inside;
-            same_text = x ∙ r.same_text;
-            same_sections = y ∙ r.same_sections;
-            same_entries = z ∙ r.same_entries;
           }
 
-      pub reading_end : t ≡ End → length f ≤ 65535 → (a : ReadAnswer) → a ≡ answer_of p.state
-          → ReadInto (run empty_table (logical f)) d e g a text' sections' entries'
-      reading_end w h a q =
-          let l : TurnTaken f p r.table d text' e sections' g entries' End = subst (TurnTaken f p r.table d text' e sections' g entries') w k in
-          subst (λ (z : ReadAnswer). ReadInto (run empty_table (logical f)) d e g z text' sections' entries') (sym q)
-          (record {
+      pub reading_end : (logical_from f c ≡ []) × Holds r.table b' a.text a.sections a.entries → length f ≤ 65535
+          → AllRead (run empty_table (logical f)) a.text a.sections a.entries b'
+      reading_end l h =
+          record {
             table = r.table;
             outcome = r.so_far ∙ ap (run r.table) l.0 ∙ run_nil r.table;
-            state = p.state;
             holds = l.1;
-            text_is = refl;
-            sections_is = refl;
-            entries_is = refl;
-            sized = sized_more p.cursor.offset 65535 r.table (omega (arith, r.inside)) r.sized;
-          })
+            sized = sized_more c.offset 65535 r.table (omega (arith, r.inside)) r.sized;
+          }
 
-      pub reading_refused : (w : Error) → t ≡ Refused w → run empty_table (logical f) ≡ error_means w
-      reading_refused w q = r.so_far ∙ subst (TurnTaken f p r.table d text' e sections' g entries') q k
+      pub reading_refused : (w : Error) → run r.table (logical_from f c) ≡ error_means w → run empty_table (logical f) ≡ error_means w
+      reading_refused w q = r.so_far ∙ q

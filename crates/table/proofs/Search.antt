@@ -10,7 +10,7 @@ use Rattle.table.specs.Tables.{Event, new_section, new_entry, names, later, inde
 use Rattle.table.specs.Contents.{text_of, section_record, records_from}
 use Rattle.table.proofs.Events.{Below, index_below}
 use Rattle.table.specs.Laws.{Apart}
-use Rattle.table.specs.Steps.{is_named, first_named, SectionFound}
+use Rattle.table.specs.Steps.{is_named, first_named}
 use Rattle.table.proofs.TableLaws.{index_apart}
 
 -- ---- one pair
@@ -60,16 +60,12 @@ module _ (x text : Bytes) (k : ℕ) (ns : List ℕ) where
         let q : first_named x text (k - i) (drop (2 * i) ns) ≡ suc (first_named x text (k - (i + 1)) (drop (2 * (i + 1)) ns)) = here h m ∙ rw e in
         (omega arith, omega (arith, l.1, q))
 
-    pub looking_over : k ≤ i → SectionFound x text k ns i
+    pub looking_over : k ≤ i → first_named x text k ns ≡ k
     unfolding first_named
     looking_over h =
         let e : k - i ≡ 0 = omega arith in
         let q : first_named x text (k - i) (drop (2 * i) ns) ≡ 0 = rw e in
-        record { known = λ m. absurd (omega arith); new = λ m. omega (arith, l.0, l.1, q) }
-
-  -- a pair that is the name
-  pub found_pair : (i : ℕ) → i < k → is_named x text (get_or ns (2 * i) 0) (get_or ns (2 * i + 1) 0) ≡ true → SectionFound x text k ns i
-  found_pair i h e = record { known = λ m. e; new = λ m. absurd (omega arith) }
+        omega (arith, l.0, l.1, q)
 
 -- ---- the sections of a table: the first that is the name
 

@@ -1,5 +1,5 @@
 -- What the answer of `read` means in the rules, and what a call leaves in the three buffers.
-use Rattle.std.specs.Prelude.{◌≡◌, ℕ, cond, ◌||◌, List, length, nat_lt}
+use Rattle.std.specs.Prelude.{◌≡◌, ℕ, cond, ◌||◌, List, length, nat_lt, Result, Ok, Err}
 use Rattle.lines.specs.Bytes.{Bytes}
 use Rattle.lines.specs.Answers.{Outcome, accepted, refused}
 use Rattle.lines.specs.Answers as file
@@ -8,8 +8,7 @@ use Rattle.table.specs.Tables.{Table, names, entries, verdict}
 use Rattle.table.specs.Contents.{text_of, section_numbers, entry_numbers}
 use Rattle.table.specs.declared.error.Error.{Error}
 use Rattle.table.specs.declared.error.Error.TheVariants.{File, BadHeader, NoEqualsSign, BadKey, NoSection, TooMany}
-use Rattle.table.specs.declared.reader.ReadAnswer.{ReadAnswer}
-use Rattle.table.specs.declared.reader.ReadAnswer.TheVariants.{Accepted, Refused}
+use Rattle.table.specs.declared.state.Counts.{Counts}
 
 -- ---- refusals
 
@@ -37,16 +36,10 @@ error_means e = refused (number_of e) (place_of e)
 
 -- ---- reading
 
--- how many text bytes, sections and entries there are
-pub record Counts : Type 0 where
-  pub text : ℕ
-  pub sections : ℕ
-  pub entries : ℕ
-
 -- what the answer of `read` means
-abbrev pub read_means : ReadAnswer → Outcome Counts
-read_means (Accepted n m k) = accepted (record { text = n; sections = m; entries = k })
-read_means (Refused e) = error_means e
+abbrev pub read_means : Result Counts Error → Outcome Counts
+read_means (Ok c) = accepted c
+read_means (Err e) = error_means e
 
 -- the counts of a table
 abbrev pub counts_of : Table → Counts
@@ -81,7 +74,7 @@ pub record TableLeft (o : Outcome Table) (text : Bytes) (sections entries : List
 
 -- and what it answers
 pub record ReadLeaves (o : Outcome Table) (text : Bytes) (sections entries : List ℕ)
-    (r : ReadAnswer) (text' : Bytes) (sections' entries' : List ℕ) : Type 0 where
+    (r : Result Counts Error) (text' : Bytes) (sections' entries' : List ℕ) : Type 0 where
   pub answer : read_means r ≡ counted o
   pub left : TableLeft o text sections entries text' sections' entries'
 
@@ -93,6 +86,6 @@ read_in text_size sections_size entries_size f =
 
 -- the promise of `read`: the answer, and the three buffers whole
 abbrev pub Reads : (f text : Bytes) (sections entries : List ℕ)
-    (r : ReadAnswer) (text' : Bytes) (sections' entries' : List ℕ) → Type 0
+    (r : Result Counts Error) (text' : Bytes) (sections' entries' : List ℕ) → Type 0
 Reads f text sections entries r text' sections' entries' =
     ReadLeaves (read_in (length text) (length sections) (length entries) f) text sections entries r text' sections' entries'

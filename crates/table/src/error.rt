@@ -1,9 +1,12 @@
 // Why a file is refused: the refusals 1 to 10 of the rules.
 ghost use Rattle.std.specs.Prelude.{◌≡◌};
 ghost use Rattle.table.specs.Answers.{number_of, place_of};
+ghost use Rattle.table.specs.declared.error.Error.TheVariants.{File};
+
+use std::fmt;
 
 // A fault in a line carries the number of the first physical line of it.
-#[derive(Clone, Copy)]
+#[derive(Clone, Copy, Debug, PartialEq, Eq)]
 pub enum Error {
     // A short buffer, a fault of the whole file, or a line that is too long: 1 to 5.
     File(lines::Error),
@@ -37,11 +40,28 @@ impl Error {
     {
         match self {
             Error::File(e) => e.place(),
-            Error::BadHeader(line) => line,
-            Error::NoEqualsSign(line) => line,
-            Error::BadKey(line) => line,
-            Error::NoSection(line) => line,
-            Error::TooMany(line) => line,
+            Error::BadHeader(line)
+            | Error::NoEqualsSign(line)
+            | Error::BadKey(line)
+            | Error::NoSection(line)
+            | Error::TooMany(line) => line,
         }
+    }
+}
+
+impl fmt::Display for Error {
+    fn fmt<W: fmt::Write>(&self, f: &mut fmt::Formatter<W>) -> fmt::Result {
+        write!(f, "refused {} at {}", self.number(), self.place())
+    }
+}
+
+impl std::error::Error for Error {}
+
+// What refuses the file itself, or a line of it, refuses the table.
+impl From<lines::Error> for Error {
+    ghost from_gives = { λ e r. r ≡ File e };
+
+    fn from(e: lines::Error) -> Error {
+        Error::File(e)
     }
 }

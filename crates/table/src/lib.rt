@@ -1,6 +1,7 @@
 // The table of a settings file: sections and entries, from the file's bytes.
 #![tactic(auto)]
 
+mod builder;
 mod error;
 mod kinds;
 mod order;
@@ -10,4 +11,5 @@ mod state;
 mod steps;
 
 pub use error::Error;
-pub use reader::{ReadAnswer, read};
+pub use reader::read;
+pub use state::Counts;

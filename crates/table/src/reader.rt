@@ -3,122 +3,44 @@ ghost use Rattle.std.specs.Prelude.{◌≡◌, ◌≤◌, length};
 ghost use Rattle.lines.specs.Lines.{logical};
 ghost use Rattle.table.specs.Tables.{empty_table, run};
 ghost use Rattle.table.specs.Answers.{ReadLeaves, Reads};
-ghost use Rattle.table.specs.Steps.{answer_of, ReadsLine, ReadInto};
+ghost use Rattle.table.specs.Steps.{state_of, ReadsLine, ReadInto};
 
+use crate::builder::{Builder, ENTRY_NUMBERS, SECTION_NUMBERS, TEXT_BYTES};
 use crate::error::Error;
-use crate::state::{State, Step};
-use crate::steps::add_line;
-use lines::{Check, Cursor, Next};
+use crate::order::Order;
+use crate::state::{Counts, State};
+use lines::Cursor;
 
-#[derive(Clone, Copy)]
-pub enum ReadAnswer {
-    // How many text bytes, sections and entries there are.
-    Accepted {
-        text: usize,
-        sections: usize,
-        entries: usize,
-    },
-    Refused(Error),
-}
-
-// The least sizes of the buffers.
-const TEXT_BYTES: usize = 65535;
-
-const SECTION_NUMBERS: usize = 128;
-
-const ENTRY_NUMBERS: usize = 2560;
-
-// The order of the sections has two numbers for each.
-const ORDER_NUMBERS: usize = 128;
-
-// Where reading goes on, and what the table has.
-#[derive(Clone, Copy)]
-struct Progress {
-    cursor: Cursor,
-    state: State,
-}
-
-#[derive(Clone, Copy)]
-enum Turn {
-    Go(Progress),
-    // No line is left.
-    End,
-    Refused(Error),
-}
-
-// The answer for a table that is complete.
-fn accepted(state: State) -> ReadAnswer
-    ensures { result ≡ answer_of state }
-{
-    ReadAnswer::Accepted {
-        text: state.text,
-        sections: state.sections,
-        entries: state.entries,
+impl Builder {
+    // The next logical line goes into the table, where one is left. The line buffer has at least 4,096 bytes. The answer is
+    // where reading goes on.
+    fn read_line(
+        &mut self,
+        file: &[u8],
+        cursor: Cursor,
+        line: &mut [u8],
+    ) -> Result<Option<Cursor>, Error>
+        requires { (4096 ≤ length line.old) × (self.old.state.text ≤ cursor.offset) × (length file.now ≤ 65535) }
+        ensures { ReadsLine file.now cursor self.old result self.new }
+    {
+        let Some(found) = lines::next_line(file, cursor, line)? else {
+            return Ok(None);
+        };
+        self.add_line(&line[..found.length], found.first)?;
+        Ok(Some(found.next))
     }
-}
 
-// The next logical line goes into the table. The line buffer has at least 4,096 bytes.
-fn read_line(
-    file: &[u8],
-    progress: Progress,
-    line: &mut [u8],
-    text: &mut [u8],
-    sections: &mut [usize],
-    entries: &mut [usize],
-    order: &mut [usize],
-) -> Turn
-    requires { (4096 ≤ length line.old) × (progress.state.text ≤ progress.cursor.offset) × (length file.now ≤ length text.old) × (progress.state.sections ≤ 64) × (128 ≤ length sections.old) × (2560 ≤ length entries.old) × (128 ≤ length order.old) }
-    ensures { ReadsLine file.now progress text.old sections.old entries.old result text.new sections.new entries.new }
-{
-    match lines::next_line(file, progress.cursor, line) {
-        Next::Found {
-            length,
-            first,
-            next,
-        } => match add_line(
-            &line[0..length],
-            first,
-            progress.state,
-            text,
-            sections,
-            entries,
-            order,
-        ) {
-            Step::Go(state) => Turn::Go(Progress {
-                cursor: next,
-                state,
-            }),
-            Step::Refused(e) => Turn::Refused(e),
-        },
-        Next::End => Turn::End,
-        Next::Refused(e) => Turn::Refused(Error::File(e)),
-    }
-}
-
-// All lines of a file, into buffers of the least sizes.
-fn read_lines(
-    file: &[u8],
-    text: &mut [u8],
-    sections: &mut [usize],
-    entries: &mut [usize],
-) -> ReadAnswer
-    requires { (length file.now ≤ 65535) × (length text.old ≡ 65535) × (length sections.old ≡ 128) × (length entries.old ≡ 2560) }
-    ensures { ReadInto (run empty_table (logical file.now)) text.old sections.old entries.old result text.new sections.new entries.new }
-{
-    let mut line = [0u8; 4096];
-    let mut order = [0usize; ORDER_NUMBERS];
-    let mut progress = Progress {
-        cursor: Cursor::first(),
-        state: State::new(),
-    };
-    loop {
-        match read_line(
-            file, progress, &mut line, text, sections, entries, &mut order,
-        ) {
-            Turn::Go(next) => progress = next,
-            Turn::End => return accepted(progress.state),
-            Turn::Refused(e) => return ReadAnswer::Refused(e),
+    // All lines of a file, into an empty table.
+    fn read_lines(&mut self, file: &[u8]) -> Result<(), Error>
+        requires { (length file.now ≤ 65535) × (self.old.state ≡ state_of empty_table) }
+        ensures { ReadInto (run empty_table (logical file.now)) self.old result self.new }
+    {
+        let mut line = [0u8; 4096];
+        let mut cursor = Cursor::first();
+        while let Some(next) = self.read_line(file, cursor, &mut line)? {
+            cursor = next;
         }
+        Ok(())
     }
 }
 
@@ -128,26 +50,23 @@ fn read_apart(
     text: &mut [u8],
     sections: &mut [usize],
     entries: &mut [usize],
-) -> ReadAnswer
+) -> Result<Counts, Error>
     requires { (length file.now ≤ 65535) × (65535 ≤ length text.old) × (128 ≤ length sections.old) × (2560 ≤ length entries.old) }
     ensures { ReadLeaves (run empty_table (logical file.now)) text.old sections.old entries.old result text.new sections.new entries.new }
 {
-    let mut bytes = [0u8; TEXT_BYTES];
-    let mut section_numbers = [0usize; SECTION_NUMBERS];
-    let mut entry_numbers = [0usize; ENTRY_NUMBERS];
-    let answer = read_lines(file, &mut bytes, &mut section_numbers, &mut entry_numbers);
-    let ReadAnswer::Accepted {
-        text: t,
-        sections: s,
-        entries: k,
-    } = answer
-    else {
-        return answer;
+    let mut table = Builder {
+        text: [0; TEXT_BYTES],
+        sections: [0; SECTION_NUMBERS],
+        entries: [0; ENTRY_NUMBERS],
+        order: Order::new(),
+        state: State::new(),
     };
-    lines::copy_into(&bytes[0..t], text, 0);
-    lines::copy_numbers_into(&section_numbers[0..2 * s], sections, 0);
-    lines::copy_numbers_into(&entry_numbers[0..5 * k], entries, 0);
-    answer
+    table.read_lines(file)?;
+    let counts = table.state.counts();
+    lines::copy_into(&table.text[..counts.text], text, 0);
+    lines::copy_into(&table.sections[..2 * counts.sections], sections, 0);
+    lines::copy_into(&table.entries[..5 * counts.entries], entries, 0);
+    Ok(counts)
 }
 
 // Reads a file: its table in `text`, `sections` and `entries`, which have at least 65,535 bytes, 128 and 2,560
@@ -157,20 +76,18 @@ pub fn read(
     text: &mut [u8],
     sections: &mut [usize],
     entries: &mut [usize],
-) -> ReadAnswer
+) -> Result<Counts, Error>
     ensures { Reads file.now text.old sections.old entries.old result text.new sections.new entries.new }
 {
     if text.len() < TEXT_BYTES {
-        return ReadAnswer::Refused(Error::File(lines::Error::ShortBuffer));
+        return Err(Error::File(lines::Error::ShortBuffer));
     }
     if sections.len() < SECTION_NUMBERS {
-        return ReadAnswer::Refused(Error::File(lines::Error::ShortBuffer));
+        return Err(Error::File(lines::Error::ShortBuffer));
     }
     if entries.len() < ENTRY_NUMBERS {
-        return ReadAnswer::Refused(Error::File(lines::Error::ShortBuffer));
+        return Err(Error::File(lines::Error::ShortBuffer));
     }
-    match lines::check_file(file) {
-        Check::Accepted => read_apart(file, text, sections, entries),
-        Check::Refused(e) => ReadAnswer::Refused(Error::File(e)),
-    }
+    lines::check_file(file)?;
+    read_apart(file, text, sections, entries)
 }

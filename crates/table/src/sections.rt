@@ -1,97 +1,91 @@
 // The sections that a table has so far.
-ghost use Rattle.std.specs.Prelude.{◌≡◌, ◌+◌, ◌*◌, ◌<◌, ◌≤◌, length};
+ghost use Rattle.std.specs.Prelude.{◌≡◌, ◌+◌, ◌<◌, ◌≤◌, length};
 ghost use Rattle.table.specs.LineKinds.{header};
-ghost use Rattle.table.specs.Steps.{is_named, SectionFound, SectionPut, TakesHeader};
+ghost use Rattle.table.specs.Steps.{is_named, section_named, SectionFound, SectionPut, TakesLine};
 
+use crate::builder::Builder;
 use crate::error::Error;
-use crate::order::{guess_section, put_in_order};
-use crate::state::{State, Step};
+use crate::state::State;
 
 // Whether a part of the text is this name. One that is not inside the text is no name.
 fn is_named(name: &[u8], text: &[u8], start: usize, length: usize) -> bool
     ensures { result ≡ is_named name.now text.now start length }
 {
-    if text.len() < start {
-        return false;
-    }
-    if text.len() - start < length {
-        return false;
-    }
-    lines::same(name, &text[start..start + length])
+    start <= text.len()
+        && length <= text.len() - start
+        && lines::same(name, &text[start..start + length])
 }
 
-// The index of a section with this name, or the number of sections. All of them are looked at, one after another.
-fn search_sections(name: &[u8], text: &[u8], sections: &[usize], count: usize) -> usize
-    requires { 2 * count ≤ length sections.now }
-    ensures { SectionFound name.now text.now count sections.now result }
-{
-    let mut i = 0;
-    while i < count {
-        if is_named(name, text, sections[2 * i], sections[2 * i + 1]) {
-            return i;
+impl Builder {
+    // Whether the section with this index has this name.
+    fn section_is(&self, index: usize, name: &[u8]) -> bool
+        requires { index < self.now.state.sections }
+        ensures { result ≡ section_named name.now self.now.text self.now.sections index }
+    {
+        is_named(
+            name,
+            &self.text,
+            self.sections[2 * index],
+            self.sections[2 * index + 1],
+        )
+    }
+
+    // The index of a section with this name. All of them are looked at, one after another.
+    fn search_section(&self, name: &[u8]) -> Option<usize>
+        ensures { SectionFound name.now self.now.text self.now.state.sections self.now.sections result }
+    {
+        for i in 0..self.state.sections {
+            if self.section_is(i, name) {
+                return Some(i);
+            }
         }
-        i += 1;
+        None
     }
-    i
-}
 
-// The same, where a guess comes first. It may be any number; one that is right saves the search.
-fn find_section(name: &[u8], text: &[u8], sections: &[usize], count: usize, guess: usize) -> usize
-    requires { 2 * count ≤ length sections.now }
-    ensures { SectionFound name.now text.now count sections.now result }
-{
-    if guess < count {
-        if is_named(name, text, sections[2 * guess], sections[2 * guess + 1]) {
-            return guess;
+    // The same, where a guess comes first. It may be any number; one that is right saves the search.
+    fn find_section(&self, name: &[u8]) -> Option<usize>
+        ensures { SectionFound name.now self.now.text self.now.state.sections self.now.sections result }
+    {
+        match self.order.guess(name, &self.text, &self.sections) {
+            Some(guess) if guess < self.state.sections && self.section_is(guess, name) => {
+                Some(guess)
+            }
+            _ => self.search_section(name),
         }
     }
-    search_sections(name, text, sections, count)
-}
 
-// A new section behind the others.
-fn put_section(name: &[u8], state: State, text: &mut [u8], sections: &mut [usize]) -> State
-    requires { (state.text + length name.now ≤ length text.old) × (2 * state.sections + 2 ≤ length sections.old) }
-    ensures { SectionPut name.now state text.old sections.old result text.new sections.new }
-{
-    let start = state.text;
-    let count = state.sections;
-    lines::copy_into(name, text, start);
-    sections[2 * count] = start;
-    sections[2 * count + 1] = name.len();
-    State {
-        text: start + name.len(),
-        sections: count + 1,
-        entries: state.entries,
-        current: count + 1,
+    // A new section behind the others, which is open then.
+    fn put_section(&mut self, name: &[u8])
+        requires fits { self.old.state.text + length name.now ≤ 65535 }
+        requires room { self.old.state.sections < 64 }
+        ensures { SectionPut name.now self.old self.new }
+    {
+        let start = self.state.text;
+        let count = self.state.sections;
+        lines::copy_into(name, &mut self.text, start);
+        lines::copy_into(&[start, name.len()], &mut self.sections, 2 * count);
+        self.state = State {
+            text: start + name.len(),
+            sections: count + 1,
+            entries: self.state.entries,
+            current: count + 1,
+        };
     }
-}
 
-// A header with this name: an earlier section goes on, or a new one opens.
-pub(crate) fn open_section(
-    name: &[u8],
-    number: usize,
-    state: State,
-    text: &mut [u8],
-    sections: &mut [usize],
-    order: &mut [usize],
-) -> Step
-    requires { (state.text + length name.now ≤ length text.old) × (state.sections ≤ 64) × (128 ≤ length sections.old) × (128 ≤ length order.old) }
-    ensures { TakesHeader (header name.now) number state text.old sections.old result text.new sections.new }
-{
-    let count = state.sections;
-    let guess = guess_section(name, text, sections, count, order);
-    let index = find_section(name, text, sections, count, guess);
-    if index < count {
-        return Step::Go(State {
-            text: state.text,
-            sections: count,
-            entries: state.entries,
-            current: index + 1,
-        });
+    // A header with this name: an earlier section goes on, or a new one opens.
+    pub(crate) fn open_section(&mut self, name: &[u8], number: usize) -> Result<(), Error>
+        requires { self.old.state.text + length name.now ≤ 65535 }
+        ensures { TakesLine (header name.now) number self.old result self.new }
+    {
+        if let Some(index) = self.find_section(name) {
+            self.state.current = index + 1;
+            return Ok(());
+        }
+        if 64 <= self.state.sections {
+            return Err(Error::TooMany(number));
+        }
+        self.order.put(name, &self.text, &self.sections);
+        self.put_section(name);
+        Ok(())
     }
-    if 64 <= count {
-        return Step::Refused(Error::TooMany(number));
-    }
-    put_in_order(name, text, sections, count, order);
-    Step::Go(put_section(name, state, text, sections))
 }

@@ -1,9 +1,15 @@
-// What reading keeps of a table, and what one line more does to it.
+// What reading keeps of a table, and what it answers.
 ghost use Rattle.std.specs.Prelude.{◌≡◌};
 ghost use Rattle.table.specs.Tables.{empty_table};
-ghost use Rattle.table.specs.Steps.{state_of};
+ghost use Rattle.table.specs.Steps.{state_of, counts_in};
 
-use crate::error::Error;
+// How many text bytes, sections and entries there are.
+#[derive(Clone, Copy, Debug, PartialEq, Eq)]
+pub struct Counts {
+    pub text: usize,
+    pub sections: usize,
+    pub entries: usize,
+}
 
 // How much of the buffers is used: text bytes, sections and entries; and the section that is open: 0 before any header,
 // else one more than its index.
@@ -27,11 +33,15 @@ impl State {
             current: 0,
         }
     }
-}
 
-// A line goes into the table, or is refused.
-#[derive(Clone, Copy)]
-pub(crate) enum Step {
-    Go(State),
-    Refused(Error),
+    // The counts of a table that is complete.
+    pub(crate) fn counts(self) -> Counts
+        ensures { result ≡ counts_in self }
+    {
+        Counts {
+            text: self.text,
+            sections: self.sections,
+            entries: self.entries,
+        }
+    }
 }

@@ -1,8 +1,7 @@
 // A file is read.
-use listing::tables::{Buffers, Counts};
-use listing::{notation, print, print_refused, show};
+use listing::tables::Buffers;
+use listing::{notation, show, tables};
 use std::io;
-use table::ReadAnswer;
 
 // The longest buffers.
 const TEXT: usize = 65600;
@@ -76,23 +75,16 @@ fn read_into(
         entries,
     };
     match answer {
-        ReadAnswer::Accepted {
-            text: t,
-            sections: s,
-            entries: e,
-        } => {
-            let counts = Counts {
-                text: t,
-                sections: s,
-                entries: e,
-            };
-            println!(rt; "{counts}")?;
+        Ok(counts) => {
+            tables::print_counts(rt, counts)?;
+            print!(rt; "
+")?;
             buffers.print(rt, counts)
         }
-        ReadAnswer::Refused(e) => {
-            print(rt, b"all ")?;
+        Err(e) => {
+            print!(rt; "all ")?;
             show::print_kept(rt, buffers.all_kept())?;
-            print_refused(rt, e.number(), e.place())
+            println!(rt; "{e}")
         }
     }
 }

@@ -9,12 +9,12 @@ returns-then-out-lt-OUT_BYTES c = let a = c.args in
 
 pub put_table-length-requires : goal.put_table-length-requires
 put_table-length-requires c = let a = c.args in
-    asked a.file.now a.text.now a.sections.now a.entries.now c.read.result _ _ _ c.read.ensures _ _ _ c.in-Accepted.is a.out.now (omega arith)
+    asked a.file.now a.text.now a.sections.now a.entries.now c.read.result _ _ _ c.read.ensures _ c.in-Ok.is a.out.now (omega arith)
 
-pub returns-in-Accepted : goal.returns-in-Accepted
-returns-in-Accepted c = let a = c.args in
-    written_out a.file.now a.text.now a.sections.now a.entries.now c.read.result _ _ _ c.read.ensures _ _ _ c.in-Accepted.is a.out.now (omega arith) _ _ c.put_table-length.ensures
+pub returns-in-Ok : goal.returns-in-Ok
+returns-in-Ok c = let a = c.args in
+    written_out a.file.now a.text.now a.sections.now a.entries.now c.read.result _ _ _ c.read.ensures _ c.in-Ok.is a.out.now (omega arith) _ _ c.put_table-length.ensures
 
-pub returns-in-Refused : goal.returns-in-Refused
-returns-in-Refused c = let a = c.args in
-    read_refused a.file.now a.text.now a.sections.now a.entries.now c.read.result _ _ _ c.read.ensures _ c.in-Refused.is a.out.now (omega arith)
+pub returns-in-Err : goal.returns-in-Err
+returns-in-Err c = let a = c.args in
+    read_refused a.file.now a.text.now a.sections.now a.entries.now c.read.result _ _ _ c.read.ensures _ c.in-Err.is a.out.now (omega arith)

@@ -1,24 +1,15 @@
--- `is_key`: the bytes passed may stand there, so what is left decides.
-use Rattle.std.proofs.Common.{sym, ◌∙◌, arith, drop_of_length-le}
-use Rattle.lines.specs.Bytes.{key_byte, all}
-use Rattle.lines.proofs.Slices.{all_here}
-use Rattle.table.proofs.Scans.{some_none, some_all}
+-- `is_key`: each byte may stand there, and there is one.
+use Rattle.std.proofs.Common.{◌≡◌, false, not, ◌∙◌, sym, rules, tests}
+use Rattle.std.proofs.lemmas.Iterator.{YieldsList-from_slice}
+use Rattle.std.proofs.lemmas.Iterator.Search.{all_from_yields_List}
+use Rattle.lines.specs.Bytes.{key_byte}
+use Rattle.table.proofs.Scans.{one_or_more-none, one_or_more-some}
 use Rattle.table.proofs.kinds.is_key.Goals as goal
 
-pub returns-then-part-eq0 : goal.returns-then-part-eq0
-returns-then-part-eq0 c = sym (some_none key_byte _ c.if-part-eq0.true)
+pub returns-then-not-is_empty : goal.returns-then-not-is_empty
+returns-then-not-is_empty c = let l = c.args.part.now in
+    all_from_yields_List key_byte _ _ _ c.all.ensures.ran (YieldsList-from_slice l cc) (λ x b q k. search (rules, tests))
+    ∙ one_or_more-some key_byte l (search (rules, tests))
 
-pub loop-i-init : goal.loop-i-init
-loop-i-init c = (omega arith, some_all key_byte _ (omega (arith, c.if-part-eq0.false)))
-
-pub returns-then-not-is_key_byte : goal.returns-then-not-is_key_byte
-returns-then-not-is_key_byte c = let e = all_here c.args.part.now c.loop-i.i (omega arith) key_byte in
-    sym (c.loop-i.invariant.1 ∙ e ∙ rw (sym c.is_key_byte.ensures ∙ c.if-not-is_key_byte.true))
-
-pub loop-i-preserved : goal.loop-i-preserved
-loop-i-preserved c = let e = all_here c.args.part.now c.loop-i.i (omega arith) key_byte in
-    (omega arith, c.loop-i.invariant.1 ∙ e ∙ rw (sym c.is_key_byte.ensures ∙ c.if-not-is_key_byte.false))
-
-pub returns : goal.returns
-unfolding all
-returns c = sym (c.loop-i.invariant.1 ∙ rw (drop_of_length-le c.args.part.now c.loop-i-test.false))
+pub returns-else-not-is_empty : goal.returns-else-not-is_empty
+returns-else-not-is_empty c = let e : not c.is_empty.result ≡ false = search (rules, tests) in e ∙ sym (one_or_more-none key_byte c.args.part.now (search (rules, tests)))

@@ -1,43 +1,24 @@
 -- `read_apart`: a refusal is handed on, and a table that was read is copied.
-use Rattle.std.proofs.Common.{◌≡◌, length, arith, rules}
-use Rattle.table.proofs.ReadCalls.{all_known, apart_refused, counts_fit, apart_copied}
+use Rattle.std.specs.Prelude.{Err}
+use Rattle.std.proofs.Common.{◌≡◌, ap, arith, rules}
+use Rattle.table.specs.Tables.{names}
+use Rattle.table.specs.declared.state.State.{State}
+use Rattle.table.proofs.ReadCalls.{leaves_refused, apart_copied}
 use Rattle.table.proofs.reader.read_apart.Goals as goal
 
-pub returns-in_default : goal.returns-in_default
-returns-in_default c = apart_refused _ _ c.read_lines-answer.new.text _ c.read_lines-answer.new.sections _ c.read_lines-answer.new.entries c.read_lines-answer.result c.read_lines-answer.ensures _ c.in_default.is c.args.text.now c.args.sections.now c.args.entries.now
+pub invariant_of-table : goal.invariant_of-table
+unfolding names
+invariant_of-table c = record { few = omega (arith, ap (λ (s : State). s.sections) c.new-2.ensures) }
 
-pub slice_bounds-copy_into-end : goal.slice_bounds-copy_into-end
-slice_bounds-copy_into-end c = let h = all_known _ _ c.read_lines-answer.new.text _ c.read_lines-answer.new.sections _ c.read_lines-answer.new.entries c.read_lines-answer.result c.read_lines-answer.ensures c.in-Accepted.t c.in-Accepted.s c.in-Accepted.k c.in-Accepted.is in
-    let f = counts_fit _ _ _ _ _ _ _ _ _ _ h in
-    let k : length c.read_lines-answer.new.text ≡ 65535 = search rules in
-    omega (arith, k, f.0)
-
-pub overflow_mul-s : goal.overflow_mul-s
-overflow_mul-s c = let h = all_known _ _ c.read_lines-answer.new.text _ c.read_lines-answer.new.sections _ c.read_lines-answer.new.entries c.read_lines-answer.result c.read_lines-answer.ensures c.in-Accepted.t c.in-Accepted.s c.in-Accepted.k c.in-Accepted.is in
-    let f = counts_fit _ _ _ _ _ _ _ _ _ _ h in
-    record { fits = omega (arith, f.1) }
-
-pub slice_bounds-copy_numbers_into-end : goal.slice_bounds-copy_numbers_into-end
-slice_bounds-copy_numbers_into-end c = let h = all_known _ _ c.read_lines-answer.new.text _ c.read_lines-answer.new.sections _ c.read_lines-answer.new.entries c.read_lines-answer.result c.read_lines-answer.ensures c.in-Accepted.t c.in-Accepted.s c.in-Accepted.k c.in-Accepted.is in
-    let f = counts_fit _ _ _ _ _ _ _ _ _ _ h in
-    let k : length c.read_lines-answer.new.sections ≡ 128 = search rules in
-    omega (arith, k, f.1)
-
-pub overflow_mul-k : goal.overflow_mul-k
-overflow_mul-k c = let h = all_known _ _ c.read_lines-answer.new.text _ c.read_lines-answer.new.sections _ c.read_lines-answer.new.entries c.read_lines-answer.result c.read_lines-answer.ensures c.in-Accepted.t c.in-Accepted.s c.in-Accepted.k c.in-Accepted.is in
-    let f = counts_fit _ _ _ _ _ _ _ _ _ _ h in
-    record { fits = omega (arith, f.2) }
-
-pub slice_bounds-copy_numbers_into-end-2 : goal.slice_bounds-copy_numbers_into-end-2
-slice_bounds-copy_numbers_into-end-2 c = let h = all_known _ _ c.read_lines-answer.new.text _ c.read_lines-answer.new.sections _ c.read_lines-answer.new.entries c.read_lines-answer.result c.read_lines-answer.ensures c.in-Accepted.t c.in-Accepted.s c.in-Accepted.k c.in-Accepted.is in
-    let f = counts_fit _ _ _ _ _ _ _ _ _ _ h in
-    let k : length c.read_lines-answer.new.entries ≡ 2560 = search rules in
-    omega (arith, k, f.2)
+pub returns-in_err-read_lines : goal.returns-in_err-read_lines
+returns-in_err-read_lines c = let a = c.args in
+    let q : c.from_residual.result ≡ Err c.in_err-read_lines.field-0.0 = search rules in
+    rw q (leaves_refused _ _ c.in_err-read_lines.ensures a.text.now a.sections.now a.entries.now)
 
 pub returns : goal.returns
-returns c = let h = all_known _ _ c.read_lines-answer.new.text _ c.read_lines-answer.new.sections _ c.read_lines-answer.new.entries c.read_lines-answer.result c.read_lines-answer.ensures c.in-Accepted.t c.in-Accepted.s c.in-Accepted.k c.in-Accepted.is in
-    let f = counts_fit _ _ _ _ _ _ _ _ _ _ h in
-    apart_copied _ _ c.read_lines-answer.new.text _ c.read_lines-answer.new.sections _ c.read_lines-answer.new.entries _ _ _ h c.args.text.now _ c.args.sections.now _ c.args.entries.now _ c.requires.1 c.requires.2 c.requires.3
+returns c = let a = c.args in
+    apart_copied _ _ _ _ c.read_lines.new.self c.in_ok-read_lines.ensures c.counts-counts.result c.counts-counts.ensures
+    a.text.now _ a.sections.now _ a.entries.now _ c.requires.1 c.requires.2 c.requires.3
     c.copy_into.ensures.held
-    c.copy_numbers_into.ensures.held
-    c.copy_numbers_into-2.ensures.held
+    c.copy_into-2.ensures.held
+    c.copy_into-3.ensures.held

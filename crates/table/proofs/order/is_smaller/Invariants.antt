@@ -1,9 +1,0 @@
--- `is_smaller`: each byte is inside both.
-use Rattle.std.proofs.Common.{◌-◌, length}
-use Rattle.table.proofs.order.is_smaller.Given as goal
-
-abbrev pub invariant-loop-i : goal.invariant-loop-i
-invariant-loop-i l = Unit {0}
-
-abbrev pub decreases-loop-i : goal.decreases-loop-i
-decreases-loop-i l = length l.a - l.i

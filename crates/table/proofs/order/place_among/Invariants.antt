@@ -1,9 +1,0 @@
--- `place_among`: what lies between is inside the order.
-use Rattle.std.proofs.Common.{◌-◌, ◌≤◌}
-use Rattle.table.proofs.order.place_among.Given as goal
-
-abbrev pub invariant-loop-low : goal.invariant-loop-low
-invariant-loop-low l = (l.low ≤ l.high) × (l.high ≤ l.count)
-
-abbrev pub decreases-loop-low : goal.decreases-loop-low
-decreases-loop-low l = l.high - l.low
