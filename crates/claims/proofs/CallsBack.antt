@@ -1,6 +1,6 @@
 -- The round trip from what `write` and `split` promise, and of the function that makes both calls.
 use mathlib.Core.Path.{◌≡◌, refl, sym, ap, subst, ◌∙◌}
-use Prim.Native.Nat.{ℕ, ◌-◌, ◌≤◌, ◌<◌}
+use Prim.Native.Nat.{ℕ, ◌≤◌, ◌<◌}
 use native.Mathlib.Omega.{arith}
 use mathlib.Core.List.{List}
 use lib.ListN.{length, take, get_or}
@@ -15,15 +15,12 @@ use Rattle.items.specs.Answers.{number_of, place_of, counted, bytes_after, ends_
 use Rattle.items.specs.Laws.{LaidAgain, WriteHas}
 use Rattle.items.specs.Write.{last_end}
 use Rattle.items.specs.declared.error.Error.{Error}
+use Rattle.items.specs.declared.splitter.Counts.{Counts}
 use Rattle.items.specs.declared.error.Error.TheVariants.{ShortBuffer}
-use Rattle.items.specs.declared.splitter.SplitAnswer.{SplitAnswer}
-use Rattle.items.specs.declared.splitter.SplitAnswer.TheVariants.{Refused}
 use Rattle.items.proofs.Laws.{cut_is_laid_again, write_is_accepted, accepted_write_has}
-use Rattle.item_writer.specs.Answers.{write_means, measured, text_after, Writes}
-use Rattle.item_writer.specs.declared.writer.WriteAnswer.{WriteAnswer}
-use Rattle.item_writer.specs.declared.writer.WriteAnswer.TheVariants.{Accepted as WriteAccepted, Refused as WriteRefused}
+use Rattle.item_writer.specs.Answers.{measured, text_after, Writes}
 use Rattle.claims.specs.RoundTrip.{Lent, WriteAccepts, Back, SplitComesBack, trip_in, trip_counts, bytes_back, ends_back, Trip}
-use Rattle.claims.specs.Steps.{ErrorOf}
+use Rattle.std.specs.Prelude.{Result, Ok, Err}
 use Rattle.claims.proofs.ListBack.{accepted_lent, text_splits, length_back, list_again}
 use Rattle.lines.proofs.Outcomes.{not_accepted, same_refusal}
 
@@ -41,7 +38,7 @@ write_accepts bytes ends out w out' l h p =
     }
 
 -- what a split call of the text gives
-back_from : (bytes : Bytes) (ends : List ℕ) → Lent bytes ends → (b : Bytes) (e : List ℕ) (r : SplitAnswer) (b' : Bytes) (e' : List ℕ)
+back_from : (bytes : Bytes) (ends : List ℕ) → Lent bytes ends → (b : Bytes) (e : List ℕ) (r : Result Counts Error) (b' : Bytes) (e' : List ℕ)
     → 4096 ≤ length b → 256 ≤ length e → Splits (written (items_in bytes ends)) b e r b' e' → Back bytes ends b e r b' e'
 back_from bytes ends l b e r b' e' h k s =
     let o = text_splits bytes ends l (length b) (length e) h k in
@@ -72,7 +69,7 @@ split_comes_back bytes ends out w out' l h p n q b e r b' e' hb he s =
 
 module _ (bytes : Bytes) (ends : List ℕ) (out b : Bytes) (e : List ℕ) where
   trip_refused : (k : Error) → trip_in (length out) (length b) (length e) bytes ends ≡ refused (number_of k) (place_of k)
-      → Trip bytes ends out b e (Refused k) out b e
+      → Trip bytes ends out b e (Err k) out b e
   trip_refused k h =
       record {
         answer = sym (ap (trip_counts ends) h);
@@ -81,44 +78,25 @@ module _ (bytes : Bytes) (ends : List ℕ) (out b : Bytes) (e : List ℕ) where
         new_ends = sym (ap (λ (o : Outcome Bytes). ends_back ends o e) h);
       }
 
-  pub trip_short_bytes : length b < 4096 → Trip bytes ends out b e (Refused ShortBuffer) out b e
+  pub trip_short_bytes : length b < 4096 → Trip bytes ends out b e (Err ShortBuffer) out b e
   unfolding trip_in
   trip_short_bytes h = trip_refused ShortBuffer (rw (lt-ltb (length b) 4096 h))
 
   module _ (hb : 4096 ≤ length b) where
-    pub trip_short_ends : length e < 256 → Trip bytes ends out b e (Refused ShortBuffer) out b e
+    pub trip_short_ends : length e < 256 → Trip bytes ends out b e (Err ShortBuffer) out b e
     unfolding trip_in
     trip_short_ends h = trip_refused ShortBuffer (rw (le-ltb (length b) 4096 hb, lt-ltb (length e) 256 h))
 
-    module _ (he : 256 ≤ length e) (w : WriteAnswer) (out' : Bytes) (p : Writes bytes ends out w out') where
+    module _ (he : 256 ≤ length e) (out' : Bytes) where
       enough : trip_in (length out) (length b) (length e) bytes ends ≡ write_in (length out) bytes ends
       unfolding trip_in
       enough = rw (le-ltb (length b) 4096 hb, le-ltb (length e) 256 he)
 
-      -- what the write call answers is what its definition says
-      told : (n p : ℕ) → measured (write_in (length out) bytes ends) ≡ refused n p → write_in (length out) bytes ends ≡ refused n p
-      told n p h = same_refusal measured (λ t. (length t, refl)) (λ m q. refl) (write_in (length out) bytes ends) n p h
-
-      written_text : (n : ℕ) → measured (write_in (length out) bytes ends) ≡ accepted n → (t : Bytes) × (write_in (length out) bytes ends ≡ accepted t) × (n ≡ length t)
-      written_text n h = go (write_in (length out) bytes ends) h
-        where
-          go : (o : Outcome Bytes) → measured o ≡ accepted n → (t : Bytes) × (o ≡ accepted t) × (n ≡ length t)
-          go (accepted t) q = (t, refl, sym (cc q))
-          go (refused m i) q = not_accepted m i n q
-
-      -- the text lies in the buffer
-      pub text_inside : (n : ℕ) → w ≡ WriteAccepted n → n ≤ length out'
-      text_inside n q =
-          let t = written_text n (sym p.answer ∙ ap write_means q) in
-          let has : WriteHas (length out) bytes ends t.0 = accepted_write_has (length out) bytes ends t.0 t.1 in
-          let x : out' ≡ filled t.0 out = p.new_out ∙ ap (λ (o : Outcome Bytes). text_after o out) t.1 in
-          omega (arith, t.2, has.space, has.short, ap length x, length-filled t.0 out (omega (arith, has.space, has.short)))
-
-      pub trip_write_refused : (d k : Error) → w ≡ WriteRefused d → ErrorOf w k → Trip bytes ends out b e (Refused k) out' b e
-      trip_write_refused d k q x =
-          let y : k ≡ d = subst (λ (v : WriteAnswer). ErrorOf v k) q x in
+      -- what the write call refuses is what its definition refuses
+      pub trip_write_refused : (k : Error) → Writes bytes ends out (Err k) out' → Trip bytes ends out b e (Err k) out' b e
+      trip_write_refused k p =
           let h : write_in (length out) bytes ends ≡ refused (number_of k) (place_of k) =
-          told (number_of k) (place_of k) (sym p.answer ∙ ap write_means q ∙ rw y) in
+          same_refusal measured (λ t. (length t, refl)) (λ m q. refl) (write_in (length out) bytes ends) (number_of k) (place_of k) (sym p.answer) in
           let f = enough ∙ h in
           record {
             answer = sym (ap (trip_counts ends) f);
@@ -127,19 +105,33 @@ module _ (bytes : Bytes) (ends : List ℕ) (out b : Bytes) (e : List ℕ) where
             new_ends = sym (ap (λ (o : Outcome Bytes). ends_back ends o e) f);
           }
 
-      pub trip_back : ((i : ℕ) → get_or bytes i 0 < 256) → (n : ℕ) → w ≡ WriteAccepted n → (r : SplitAnswer) (b' : Bytes) (e' : List ℕ)
-          → Splits (take (n - 0) out') b e r b' e' → Trip bytes ends out b e r out' b' e'
-      trip_back f n q r b' e' s =
-          let z : n - 0 ≡ n = omega arith in
-          let t = written_text n (sym p.answer ∙ ap write_means q) in
-          let has : WriteHas (length out) bytes ends t.0 = accepted_write_has (length out) bytes ends t.0 t.1 in
-          let l : Lent bytes ends = accepted_lent (length out) bytes ends t.0 f has in
-          let k : Back bytes ends b e r b' e' =
-          split_comes_back bytes ends out w out' l has.space p n (ap write_means q) b e r b' e' hb he (rw z at s) in
-          let g = enough ∙ t.1 in
-          record {
-            answer = k.accepted_with ∙ sym (ap (trip_counts ends) g);
-            new_out = p.new_out ∙ sym (ap (λ (o : Outcome Bytes). text_after o out) enough);
-            new_bytes = k.bytes_came_back ∙ sym (ap (λ (o : Outcome Bytes). bytes_back bytes ends o b) g);
-            new_ends = k.ends_came_back ∙ sym (ap (λ (o : Outcome Bytes). ends_back ends o e) g);
-          }
+      module _ (n : ℕ) (p : Writes bytes ends out (Ok n) out') where
+        written_text : (t : Bytes) × (write_in (length out) bytes ends ≡ accepted t) × (n ≡ length t)
+        written_text = go (write_in (length out) bytes ends) (sym p.answer)
+          where
+            go : (o : Outcome Bytes) → measured o ≡ accepted n → (t : Bytes) × (o ≡ accepted t) × (n ≡ length t)
+            go (accepted t) q = (t, refl, sym (cc q))
+            go (refused m i) q = not_accepted m i n q
+
+        -- the text lies in the buffer
+        pub text_inside : n ≤ length out'
+        text_inside =
+            let t = written_text in
+            let has : WriteHas (length out) bytes ends t.0 = accepted_write_has (length out) bytes ends t.0 t.1 in
+            let x : out' ≡ filled t.0 out = p.new_out ∙ ap (λ (o : Outcome Bytes). text_after o out) t.1 in
+            omega (arith, t.2, has.space, has.short, ap length x, length-filled t.0 out (omega (arith, has.space, has.short)))
+
+        pub trip_back : ((i : ℕ) → get_or bytes i 0 < 256) → (r : Result Counts Error) (b' : Bytes) (e' : List ℕ)
+            → Splits (take n out') b e r b' e' → Trip bytes ends out b e r out' b' e'
+        trip_back f r b' e' s =
+            let t = written_text in
+            let has : WriteHas (length out) bytes ends t.0 = accepted_write_has (length out) bytes ends t.0 t.1 in
+            let l : Lent bytes ends = accepted_lent (length out) bytes ends t.0 f has in
+            let k : Back bytes ends b e r b' e' = split_comes_back bytes ends out (Ok n) out' l has.space p n refl b e r b' e' hb he s in
+            let g = enough ∙ t.1 in
+            record {
+              answer = k.accepted_with ∙ sym (ap (trip_counts ends) g);
+              new_out = p.new_out ∙ sym (ap (λ (o : Outcome Bytes). text_after o out) enough);
+              new_bytes = k.bytes_came_back ∙ sym (ap (λ (o : Outcome Bytes). bytes_back bytes ends o b) g);
+              new_ends = k.ends_came_back ∙ sym (ap (λ (o : Outcome Bytes). ends_back ends o e) g);
+            }

@@ -1,14 +1,14 @@
 -- Demand 2, lists of items: written and then split, a list comes back.
-use Rattle.std.specs.Prelude.{◌≡◌, ℕ, ◌≤◌, true, ◌||◌, cond, List, ltb, length, take}
+use Rattle.std.specs.Prelude.{◌≡◌, ℕ, ◌≤◌, true, ◌||◌, cond, List, ltb, length, take, Result}
 use Rattle.lines.specs.Bytes.{Bytes}
 use Rattle.lines.specs.Answers.{Outcome, accepted, refused}
 use Rattle.lines.specs.Buffers.{filled}
 use Rattle.items.specs.Write.{written, ends_fit, items_in, write_in, last_end}
-use Rattle.items.specs.Answers.{Counts, split_means, Splits}
+use Rattle.items.specs.Answers.{split_means, Splits}
 use Rattle.items.specs.Laws.{Writable}
-use Rattle.items.specs.declared.splitter.SplitAnswer.{SplitAnswer}
+use Rattle.items.specs.declared.error.Error.{Error}
+use Rattle.items.specs.declared.splitter.Counts.{Counts}
 use Rattle.item_writer.specs.Answers.{write_means, text_after, Writes}
-use Rattle.item_writer.specs.declared.writer.WriteAnswer.{WriteAnswer}
 
 -- ---- from what the calls promise
 
@@ -18,18 +18,18 @@ pub record Lent (bytes : Bytes) (ends : List ℕ) : Type 0 where
   pub writable : Writable (items_in bytes ends)
 
 -- The write call is accepted, and the written form stands at the front of its buffer, as long as it says.
-pub record WriteLeaves (bytes : Bytes) (ends : List ℕ) (w : WriteAnswer) (out' : Bytes) : Type 0 where
+pub record WriteLeaves (bytes : Bytes) (ends : List ℕ) (w : Result ℕ Error) (out' : Bytes) : Type 0 where
   pub accepted_with : write_means w ≡ accepted (length (written (items_in bytes ends)))
   pub text : take (length (written (items_in bytes ends))) out' ≡ written (items_in bytes ends)
 
 -- so it is for every list that can be written, whatever the buffer held
 abbrev pub WriteAccepts : Type 0
-WriteAccepts = (bytes : Bytes) (ends : List ℕ) (out : Bytes) (w : WriteAnswer) (out' : Bytes)
+WriteAccepts = (bytes : Bytes) (ends : List ℕ) (out : Bytes) (w : Result ℕ Error) (out' : Bytes)
     → Lent bytes ends → 4096 ≤ length out → Writes bytes ends out w out' → WriteLeaves bytes ends w out'
 
 -- The split call is accepted with the number of ends; the bytes and the ends come back, and so does the list that
 -- they are; the rest stays.
-pub record Back (bytes : Bytes) (ends : List ℕ) (b : Bytes) (e : List ℕ) (r : SplitAnswer) (b' : Bytes) (e' : List ℕ) : Type 0 where
+pub record Back (bytes : Bytes) (ends : List ℕ) (b : Bytes) (e : List ℕ) (r : Result Counts Error) (b' : Bytes) (e' : List ℕ) : Type 0 where
   pub accepted_with : split_means r ≡ accepted (record { items = length ends; bytes = last_end 0 ends })
   pub bytes_came_back : b' ≡ filled (take (last_end 0 ends) bytes) b
   pub ends_came_back : e' ≡ filled ends e
@@ -37,10 +37,10 @@ pub record Back (bytes : Bytes) (ends : List ℕ) (b : Bytes) (e : List ℕ) (r 
 
 -- splitting the text that the write call left, as long as its answer says, gives the list back
 abbrev pub SplitComesBack : Type 0
-SplitComesBack = (bytes : Bytes) (ends : List ℕ) (out : Bytes) (w : WriteAnswer) (out' : Bytes)
+SplitComesBack = (bytes : Bytes) (ends : List ℕ) (out : Bytes) (w : Result ℕ Error) (out' : Bytes)
     → Lent bytes ends → 4096 ≤ length out → Writes bytes ends out w out'
     → (n : ℕ) → write_means w ≡ accepted n
-    → (b : Bytes) (e : List ℕ) (r : SplitAnswer) (b' : Bytes) (e' : List ℕ)
+    → (b : Bytes) (e : List ℕ) (r : Result Counts Error) (b' : Bytes) (e' : List ℕ)
     → 4096 ≤ length b → 256 ≤ length e → Splits (take n out') b e r b' e' → Back bytes ends b e r b' e'
 
 -- ---- one function that makes both calls
@@ -69,7 +69,7 @@ ends_back ends (refused n p) d = d
 -- The promise of `write_then_split`: where writing accepts the list, the text stands in one buffer, and the bytes and
 -- ends of the list have come back in the others; the rest stays. A refused call changes nothing. That it is `split`
 -- which gives them back is `SplitComesBack`.
-pub record Trip (bytes : Bytes) (ends : List ℕ) (out b : Bytes) (e : List ℕ) (r : SplitAnswer) (out' b' : Bytes) (e' : List ℕ) : Type 0 where
+pub record Trip (bytes : Bytes) (ends : List ℕ) (out b : Bytes) (e : List ℕ) (r : Result Counts Error) (out' b' : Bytes) (e' : List ℕ) : Type 0 where
   pub answer : split_means r ≡ trip_counts ends (trip_in (length out) (length b) (length e) bytes ends)
   pub new_out : out' ≡ text_after (trip_in (length out) (length b) (length e) bytes ends) out
   pub new_bytes : b' ≡ bytes_back bytes ends (trip_in (length out) (length b) (length e) bytes ends) b

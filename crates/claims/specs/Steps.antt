@@ -13,14 +13,6 @@ use Rattle.claims.specs.LookUps.{Located, look_up_means, shown, value_after}
 use Rattle.claims.specs.TwoTexts.{text_of_file, filled_with, OfTwo, both, second, alike_means}
 use Rattle.claims.specs.declared.two_texts.AlikeAnswer.{AlikeAnswer}
 use Rattle.claims.specs.declared.look_up.LookUpAnswer.{LookUpAnswer}
-use Rattle.items.specs.declared.error.Error.{Error}
-use Rattle.item_writer.specs.declared.writer.WriteAnswer.{WriteAnswer}
-use Rattle.item_writer.specs.declared.writer.WriteAnswer.TheVariants.{Accepted, Refused}
-
--- the error of a refused write call
-abbrev pub ErrorOf : WriteAnswer → Error → Type 0
-ErrorOf (Accepted n) e = Unit {0}
-ErrorOf (Refused d) e = e ≡ d
 
 -- ---- an entry looked up, and its value
 

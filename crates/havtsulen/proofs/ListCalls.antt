@@ -9,12 +9,10 @@ use Rattle.items.specs.Split.{split_in}
 use Rattle.items.specs.Write.{write_in}
 use Rattle.items.specs.Answers.{number_of, place_of, split_means, counted, ItemsLeft, Splits}
 use Rattle.items.specs.declared.error.Error.{Error}
-use Rattle.items.specs.declared.splitter.SplitAnswer.{SplitAnswer}
-use Rattle.items.specs.declared.splitter.SplitAnswer.TheVariants.{Accepted as SplitAccepted, Refused as SplitRefused}
+use Rattle.items.specs.declared.splitter.Counts.{Counts}
+use Rattle.std.specs.Prelude.{Result, Ok, Err}
 use Rattle.items.proofs.SplitCalls.{items_kept}
 use Rattle.item_writer.specs.Answers.{write_means, measured, text_after, Writes}
-use Rattle.item_writer.specs.declared.writer.WriteAnswer.{WriteAnswer}
-use Rattle.item_writer.specs.declared.writer.WriteAnswer.TheVariants.{Accepted as WriteAccepted, Refused as WriteRefused}
 use Rattle.havtsulen.specs.Reports.{with_report, Reports}
 use Rattle.havtsulen.specs.Answers.{number_told, items_told, ReportsSplit, ReportsWrite}
 use Rattle.havtsulen.specs.Steps.{Replies}
@@ -35,7 +33,7 @@ module _ (text bytes : Bytes) (ends report : List ℕ) where
         left = items_kept _ 1 0 e bytes ends;
       }
 
-  module _ (h : 4 ≤ length report) (a : SplitAnswer) (bytes' : Bytes) (ends' : List ℕ) (made : Splits text bytes ends a bytes' ends')
+  module _ (h : 4 ≤ length report) (a : Result Counts Error) (bytes' : Bytes) (ends' : List ℕ) (made : Splits text bytes ends a bytes' ends')
       (r : ℕ) (report' : List ℕ) where
     split_same : split_outcome ≡ with_report report split_outcome
     split_same = sym (with_long report split_outcome h)
@@ -52,12 +50,12 @@ module _ (text bytes : Bytes) (ends report : List ℕ) where
           left = subst (λ (o : Outcome (List Bytes)). ItemsLeft o bytes ends bytes' ends') split_same made.left;
         }
 
-    pub split_accepted : (n m : ℕ) → a ≡ SplitAccepted n m → Replies 0 n m 0 0 report r report'
+    pub split_accepted : (n : Counts) → a ≡ Ok n → Replies 0 n.items n.bytes 0 0 report r report'
         → ReportsSplit text bytes ends report r bytes' ends' report'
-    split_accepted n m known p =
-        split_leaves (accepts items_told _ report h r report' _ (ap split_means (sym known) ∙ split_means_lem) n m 0 0 refl p)
+    split_accepted n known p =
+        split_leaves (accepts items_told _ report h r report' _ (ap split_means (sym known) ∙ split_means_lem) n.items n.bytes 0 0 refl p)
 
-    pub split_refused : (x : Error) → a ≡ SplitRefused x → (number place : ℕ) → number ≡ number_of x → place ≡ place_of x
+    pub split_refused : (x : Error) → a ≡ Err x → (number place : ℕ) → number ≡ number_of x → place ≡ place_of x
         → Replies number place 0 0 0 report r report' → ReportsSplit text bytes ends report r bytes' ends' report'
     split_refused x known number place i j p =
         split_leaves (refuses items_told _ report h r report' _ _ (ap split_means (sym known) ∙ split_means_lem) (item_number x) number place i j p)
@@ -76,7 +74,7 @@ module _ (bytes : Bytes) (ends : List ℕ) (out : Bytes) (report : List ℕ) whe
         new_out = ap (λ (o : Outcome Bytes). text_after o out) (sym e);
       }
 
-  module _ (h : 4 ≤ length report) (a : WriteAnswer) (out' : Bytes) (made : Writes bytes ends out a out') (r : ℕ) (report' : List ℕ) where
+  module _ (h : 4 ≤ length report) (a : Result ℕ Error) (out' : Bytes) (made : Writes bytes ends out a out') (r : ℕ) (report' : List ℕ) where
     write_same : write_outcome ≡ with_report report write_outcome
     write_same = sym (with_long report write_outcome h)
 
@@ -88,11 +86,11 @@ module _ (bytes : Bytes) (ends : List ℕ) (out : Bytes) (report : List ℕ) whe
         → ReportsWrite bytes ends out report r out' report'
     write_leaves p = record { reports = p; new_out = made.new_out ∙ ap (λ (o : Outcome Bytes). text_after o out) write_same }
 
-    pub write_accepted : (n : ℕ) → a ≡ WriteAccepted n → Replies 0 n 0 0 0 report r report' → ReportsWrite bytes ends out report r out' report'
+    pub write_accepted : (n : ℕ) → a ≡ Ok n → Replies 0 n 0 0 0 report r report' → ReportsWrite bytes ends out report r out' report'
     write_accepted n known p =
         write_leaves (accepts number_told _ report h r report' n (ap write_means (sym known) ∙ write_means_lem) n 0 0 0 refl p)
 
-    pub write_refused : (x : Error) → a ≡ WriteRefused x → (number place : ℕ) → number ≡ number_of x → place ≡ place_of x
+    pub write_refused : (x : Error) → a ≡ Err x → (number place : ℕ) → number ≡ number_of x → place ≡ place_of x
         → Replies number place 0 0 0 report r report' → ReportsWrite bytes ends out report r out' report'
     write_refused x known number place i j p =
         write_leaves (refuses number_told _ report h r report' _ _ (ap write_means (sym known) ∙ write_means_lem) (item_number x) number place i j p)

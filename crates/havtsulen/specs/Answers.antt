@@ -14,6 +14,7 @@ use Rattle.lookup.specs.Answers.{bytes_or, part_or}
 use Rattle.lookup.specs.declared.search.Which.{Which}
 use Rattle.lookup.specs.declared.search.Which.TheVariants.{First, Last}
 use Rattle.normal_text.specs.Answers.{Sizes, sized, out_after, normal_in}
+use Rattle.items.specs.declared.splitter.Counts.{Counts as ItemCounts}
 use Rattle.items.specs.Split.{split_in}
 use Rattle.items.specs.Write.{write_in}
 use Rattle.items.specs.Answers.{ItemsLeft}
@@ -51,7 +52,7 @@ abbrev pub sizes_told : Sizes → List ℕ
 sizes_told s = four s.length s.table.text s.table.sections s.table.entries
 
 -- items, and their bytes together
-abbrev pub items_told : items.Counts → List ℕ
+abbrev pub items_told : ItemCounts → List ℕ
 items_told c = four c.items c.bytes 0 0
 
 -- ---- files

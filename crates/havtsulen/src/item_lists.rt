@@ -2,8 +2,6 @@
 ghost use Rattle.havtsulen.specs.Answers.{ReportsSplit, ReportsWrite};
 
 use crate::report::{REPORT_NUMBERS, SHORT_REPORT, reply};
-use item_writer::WriteAnswer;
-use items::SplitAnswer;
 
 // The items of a text.
 pub fn havtsulen_split(
@@ -18,8 +16,8 @@ pub fn havtsulen_split(
         return SHORT_REPORT;
     }
     match items::split(text, bytes, ends) {
-        SplitAnswer::Accepted { count, length } => reply(0, count, length, 0, 0, report),
-        SplitAnswer::Refused(e) => reply(e.number(), e.place(), 0, 0, 0, report),
+        Ok(counts) => reply(0, counts.items, counts.bytes, 0, 0, report),
+        Err(e) => reply(e.number(), e.place(), 0, 0, 0, report),
     }
 }
 
@@ -31,7 +29,7 @@ pub fn havtsulen_write(bytes: &[u8], ends: &[usize], out: &mut [u8], report: &mu
         return SHORT_REPORT;
     }
     match item_writer::write(bytes, ends, out) {
-        WriteAnswer::Accepted { length } => reply(0, length, 0, 0, 0, report),
-        WriteAnswer::Refused(e) => reply(e.number(), e.place(), 0, 0, 0, report),
+        Ok(length) => reply(0, length, 0, 0, 0, report),
+        Err(e) => reply(e.number(), e.place(), 0, 0, 0, report),
     }
 }

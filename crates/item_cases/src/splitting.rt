@@ -1,6 +1,6 @@
 // A text is split.
-use items::SplitAnswer;
-use listing::{notation, print, print_number, print_refused, show};
+use items::Counts;
+use listing::{notation, show};
 use std::io;
 
 // What stands behind `split ` in a line.
@@ -39,32 +39,24 @@ fn split_into(
     ends: &mut [usize],
 ) -> io::Result<()> {
     match items::split(text, bytes, ends) {
-        SplitAnswer::Accepted { count, length } => print_items(rt, bytes, length, ends, count),
-        SplitAnswer::Refused(e) => {
-            print(rt, b"all ")?;
-            show::print_kept(rt, show::is_kept(bytes, 0) && show::is_kept(ends, 0))?;
-            print_refused(rt, e.number(), e.place())
+        Ok(counts) => print_items(rt, bytes, ends, counts),
+        Err(e) => {
+            let kept = show::is_kept(bytes, 0) && show::is_kept(ends, 0);
+            println!(rt; "all {}, {e}", show::kept_word(kept))
         }
     }
 }
 
-fn print_items(
-    rt: &impl Print,
-    bytes: &[u8],
-    length: usize,
-    ends: &[usize],
-    count: usize,
-) -> io::Result<()> {
-    print(rt, b"rest ")?;
-    show::print_kept(
-        rt,
-        show::is_kept(bytes, length) && show::is_kept(ends, count),
+fn print_items(rt: &impl Print, bytes: &[u8], ends: &[usize], counts: Counts) -> io::Result<()> {
+    let kept = show::is_kept(bytes, counts.bytes) && show::is_kept(ends, counts.items);
+    print!(
+        rt;
+        "rest {}, {} items, {} bytes: ",
+        show::kept_word(kept),
+        counts.items,
+        counts.bytes
     )?;
-    print_number(rt, count)?;
-    print(rt, b" items, ")?;
-    print_number(rt, length)?;
-    print(rt, b" bytes: ")?;
-    show::print_numbers(rt, show::front(ends, count))?;
-    show::print_bytes(rt, show::front(bytes, length))?;
-    print(rt, b"\n")
+    show::print_numbers(rt, show::front(ends, counts.items))?;
+    show::print_bytes(rt, show::front(bytes, counts.bytes))?;
+    println!(rt)
 }

@@ -1,7 +1,5 @@
 // Items are written, and their text is split again.
-use item_writer::WriteAnswer;
-use items::SplitAnswer;
-use listing::{notation, print, print_number, print_refused, show};
+use listing::{notation, show};
 use std::io;
 
 // What stands behind `write ` in a line.
@@ -29,20 +27,14 @@ fn write(rt: &impl Print, bytes: &[u8], numbers: &[u8], size: usize) -> io::Resu
 
 fn write_into(rt: &impl Print, bytes: &[u8], ends: &[usize], out: &mut [u8]) -> io::Result<()> {
     match item_writer::write(bytes, ends, out) {
-        WriteAnswer::Accepted { length } => {
-            print(rt, b"rest ")?;
-            show::print_kept(rt, show::is_kept(out, length))?;
-            print_number(rt, length)?;
-            print(rt, b" bytes: ")?;
+        Ok(length) => {
+            let kept = show::kept_word(show::is_kept(out, length));
+            print!(rt; "rest {kept}, {length} bytes: ")?;
             let text = show::front(out, length);
             show::print_bytes(rt, text)?;
             split_again(rt, text, bytes, ends)
         }
-        WriteAnswer::Refused(e) => {
-            print(rt, b"all ")?;
-            show::print_kept(rt, show::is_kept(out, 0))?;
-            print_refused(rt, e.number(), e.place())
-        }
+        Err(e) => println!(rt; "all {}, {e}", show::kept_word(show::is_kept(out, 0))),
     }
 }
 
@@ -50,9 +42,9 @@ fn split_again(rt: &impl Print, text: &[u8], bytes: &[u8], ends: &[usize]) -> io
     let mut found = [0u8; 4096];
     let mut found_ends = [0usize; 256];
     if are_same(text, bytes, ends, &mut found, &mut found_ends) {
-        print(rt, b", split again the same\n")
+        println!(rt; ", split again the same")
     } else {
-        print(rt, b", split again not the same\n")
+        println!(rt; ", split again not the same")
     }
 }
 
@@ -64,31 +56,10 @@ fn are_same(
     found: &mut [u8],
     found_ends: &mut [usize],
 ) -> bool {
-    match items::split(text, found, found_ends) {
-        SplitAnswer::Accepted { count, length } => {
-            same_numbers(show::front(found_ends, count), ends)
-                && lines::same(show::front(found, length), show::front(bytes, last(ends)))
-        }
-        SplitAnswer::Refused(_) => false,
-    }
-}
-
-// The last number, 0 where there is none.
-fn last(ends: &[usize]) -> usize {
-    if 0 < ends.len() {
-        return ends[ends.len() - 1];
-    }
-    0
-}
-
-fn same_numbers(a: &[usize], b: &[usize]) -> bool {
-    if a.len() != b.len() {
+    let Ok(counts) = items::split(text, found, found_ends) else {
         return false;
-    }
-    for i in 0..a.len() {
-        if a[i] != b[i] {
-            return false;
-        }
-    }
-    true
+    };
+    let used = ends.last().copied().unwrap_or(0);
+    show::front(found_ends, counts.items) == ends
+        && show::front(found, counts.bytes) == show::front(bytes, used)
 }

@@ -1,14 +1,12 @@
--- Bare items: one that is not empty is judged byte by byte, and a sign is looked for with the test either way round.
-use mathlib.Core.Path.{◌≡◌, refl, sym}
+-- Bare items: one that is not empty is judged byte by byte. And what std's tests on a list answer.
+use mathlib.Core.Path.{◌≡◌, refl}
 use Prim.Native.Nat.{ℕ, ◌<◌}
 use native.Mathlib.Omega.{arith}
-use mathlib.Core.Bool.{false}
+use mathlib.Core.Bool.{Bool, false}
 use mathlib.Core.List.{[], ◌∷◌}
 use lib.ListN.{length}
-use lib.Dec.{eqb}
-use borrow.Author.Tests.{eqb-true, eqb-false, eq-eqb, ne_eqb}
+use Rattle.std.specs.List.{list_all, list_any}
 use Rattle.lines.specs.Bytes.{Bytes, all, any}
-use Rattle.lines.proofs.Bools.{by_cases}
 use Rattle.items.specs.Write.{bare_byte, is_bare}
 
 pub bare_none : (x : Bytes) → length x ≡ 0 → is_bare x ≡ false
@@ -21,13 +19,13 @@ unfolding is_bare
 bare_some [] h = absurd (omega arith)
 bare_some (b ∷ bs) h = refl
 
-eqb_swap : (a b : ℕ) → eqb a b ≡ eqb b a
-eqb_swap a b =
-    by_cases (eqb a b)
-    (λ e. rw (e, eq-eqb b a (sym (eqb-true a b e))))
-    (λ e. rw (e, ne_eqb b a (λ k. eqb-false a b e (sym k))))
+-- the tests of std on a list
+pub all_is : (p : ℕ → Bool) (l : Bytes) → list_all p l ≡ all p l
+unfolding all
+all_is p [] = refl
+all_is p (b ∷ l) = rw (all_is p l)
 
-pub any_swap : (b : ℕ) (l : Bytes) → any (λ c. eqb c b) l ≡ any (eqb b) l
+pub any_is : (p : ℕ → Bool) (l : Bytes) → list_any p l ≡ any p l
 unfolding any
-any_swap b [] = refl
-any_swap b (c ∷ l) = rw (eqb_swap c b, any_swap b l)
+any_is p [] = refl
+any_is p (b ∷ l) = rw (any_is p l)

@@ -1,5 +1,7 @@
 -- Ends that fit never fall; and what the last end is.
-use mathlib.Core.Path.{◌≡◌, refl}
+use mathlib.Core.Path.{◌≡◌, refl, sym, ◌∙◌}
+use Rattle.std.specs.Prelude.{unwrap_or, slice_get}
+use Rattle.std.proofs.lemmas.Option.{unwrap_or-slice_get}
 use Prim.Native.Nat.{ℕ, suc, ◌-◌, ◌≤◌, ◌<◌}
 use native.Mathlib.Omega.{arith}
 use mathlib.Core.Bool.{true, ◌&&◌}
@@ -33,13 +35,14 @@ last_above (e ∷ es) at n h =
     let f = first_end at n e es h in
     omega (arith, last_above es e n f.others)
 
-pub last_none : (es : List ℕ) (at : ℕ) → length es ≡ 0 → last_end at es ≡ at
-last_none [] at h = refl
-last_none (e ∷ es) at h = absurd (omega arith)
-
-pub last_some : (es : List ℕ) (at : ℕ) → 0 < length es → last_end at es ≡ get_or es (length es - 1) 0
+last_some : (es : List ℕ) (at : ℕ) → 0 < length es → last_end at es ≡ get_or es (length es - 1) 0
 last_some [] at h = absurd (omega arith)
 last_some (e ∷ []) at h = refl
 last_some (e ∷ f ∷ fs) at h =
     let m : length (e ∷ f ∷ fs) - 1 ≡ suc (length (f ∷ fs) - 1) = omega arith in
     rw m (last_some (f ∷ fs) e (omega arith))
+
+-- as std's `last` and `unwrap_or` find it
+pub last_is : (es : List ℕ) → unwrap_or (slice_get es (length es - 1)) 0 ≡ last_end 0 es
+last_is [] = refl
+last_is (e ∷ es) = unwrap_or-slice_get (e ∷ es) (length (e ∷ es) - 1) 0 ∙ sym (last_some (e ∷ es) 0 (omega arith))

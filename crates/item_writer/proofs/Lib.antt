@@ -2,7 +2,6 @@
 pub mod Rest
 -- bytes, items and lists as they are written
 pub mod Bare
-pub mod Letters
 pub mod Forms
 pub mod Written
 pub mod Quoting

@@ -5,7 +5,7 @@ use Prim.Native.Nat.{ℕ, ◌+◌, ◌*◌, ◌≤◌, ◌<◌}
 use native.Mathlib.Numerals.{add-one}
 use native.Mathlib.Omega.{arith}
 use lib.ListN.{length, take, get_or}
-use lib.Seq.{take-suc, take_all}
+use lib.Seq.{take-suc}
 use Rattle.lines.specs.Bytes.{Bytes}
 use Rattle.items.specs.Write.{written_byte, in_quotes}
 use Rattle.lines.specs.Buffers.{Puts}
@@ -36,6 +36,3 @@ module _ (item text₀ : Bytes) (at : ℕ) where
           same = s ∙ q.same;
           room = omega (arith, p.behind, byte_length b);
         }
-
-    pub quoted_done : length item ≤ i → Puts text₀ at (in_quotes item) end text
-    quoted_done h = rw (take_all i item h) at q.puts

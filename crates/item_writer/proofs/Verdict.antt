@@ -1,9 +1,9 @@
 -- The answer of `write`, test by test: each refusal where the tests before it have passed, and the text where all have.
 use mathlib.Core.Path.{◌≡◌, refl, ap, ◌∙◌}
-use Prim.Native.Nat.{ℕ, ◌+◌, ◌-◌, ◌≤◌, ◌<◌}
+use Prim.Native.Nat.{ℕ, ◌+◌, ◌≤◌, ◌<◌}
 use native.Mathlib.Nat.{zero-add}
 use native.Mathlib.Omega.{arith}
-use mathlib.Core.Bool.{true, false, cond}
+use mathlib.Core.Bool.{Bool, true, false, cond}
 use mathlib.Core.List.{List}
 use lib.ListN.{length, take, drop}
 use lib.Seq.{length-take-le, take_at}
@@ -18,29 +18,32 @@ use Rattle.items.specs.declared.error.Error.TheVariants.{ShortBuffer, TextTooLon
 use Rattle.items.specs.Write.{ends_fit, items_in, written, nul, write_in, last_end}
 use Rattle.item_writer.specs.Answers.{Writes}
 use Rattle.lines.specs.Buffers.{Puts}
-use Rattle.item_writer.specs.declared.writer.WriteAnswer.TheVariants.{Accepted, Refused}
+use Rattle.std.specs.Prelude.{Ok, Err}
+use Rattle.item_writer.proofs.Bare.{any_is}
+use Rattle.std.specs.List.{list_any}
 use Rattle.item_writer.proofs.Written.{written_least}
 use Rattle.items.proofs.Laws.{cut_is_laid_again}
 
--- the bytes up to the last end, as the code lends them
-pub used_bytes : (bs : Bytes) (ends : List ℕ) (used : ℕ) → used ≡ last_end 0 ends → take (used - 0) bs ≡ take (last_end 0 ends) bs
-used_bytes bs ends used e = let n : used - 0 ≡ last_end 0 ends = omega arith in rw n
+-- whether a NUL stands before the last end, as the code asks it
+pub has_nul : (bs : Bytes) (ends : List ℕ) (used : ℕ) (r : Bool) → used ≡ last_end 0 ends → r ≡ list_any nul (take used bs)
+    → r ≡ any nul (take (last_end 0 ends) bs)
+has_nul bs ends used r e q = q ∙ any_is nul (take used bs) ∙ ap (λ (n : ℕ). any nul (take n bs)) e
 
 module _ (bs : Bytes) (ends : List ℕ) (d : Bytes) where
-  refuses : (e : Error) → write_in (length d) bs ends ≡ error_means e → Writes bs ends d (Refused e) d
+  refuses : (e : Error) → write_in (length d) bs ends ≡ error_means e → Writes bs ends d (Err e) d
   refuses e h = record { answer = rw h; new_out = rw h }
 
-  pub short_buffer : length d < 4096 → Writes bs ends d (Refused ShortBuffer) d
+  pub short_buffer : length d < 4096 → Writes bs ends d (Err ShortBuffer) d
   unfolding write_in
   short_buffer h = refuses ShortBuffer (rw (lt-ltb (length d) 4096 h))
 
   module _ (room : 4096 ≤ length d) where
-    pub too_many : 256 < length ends → Writes bs ends d (Refused (TooManyItems 0)) d
+    pub too_many : 256 < length ends → Writes bs ends d (Err (TooManyItems 0)) d
     unfolding write_in
     too_many h = refuses (TooManyItems 0) (rw (le-ltb (length d) 4096 room, lt-ltb 256 (length ends) h))
 
     module _ (few : length ends ≤ 256) where
-      pub unfit_ends : ends_fit 0 (length bs) ends ≡ false → Writes bs ends d (Refused BadEnds) d
+      pub unfit_ends : ends_fit 0 (length bs) ends ≡ false → Writes bs ends d (Err BadEnds) d
       unfolding write_in
       unfit_ends h = refuses BadEnds (rw (le-ltb (length d) 4096 room, le-ltb 256 (length ends) few, h))
 
@@ -53,15 +56,15 @@ module _ (bs : Bytes) (ends : List ℕ) (d : Bytes) where
         unfolding write_in
         tests_left = rw (le-ltb (length d) 4096 room, le-ltb 256 (length ends) few, fit, (cut_is_laid_again bs ends fit).bytes)
 
-        pub nul_byte : any nul (take (last_end 0 ends) bs) ≡ true → Writes bs ends d (Refused NulByte) d
+        pub nul_byte : any nul (take (last_end 0 ends) bs) ≡ true → Writes bs ends d (Err NulByte) d
         nul_byte h = refuses NulByte (tests_left ∙ rw h)
 
         module _ (free : any nul (take (last_end 0 ends) bs) ≡ false) where
-          pub long_text : 4096 < length (written (items_in bs ends)) → Writes bs ends d (Refused TextTooLong) d
+          pub long_text : 4096 < length (written (items_in bs ends)) → Writes bs ends d (Err TextTooLong) d
           long_text h = refuses TextTooLong (tests_left ∙ rw (free, lt-ltb 4096 (length (written (items_in bs ends))) h))
 
           -- the bytes of the items alone are too many
-          pub long_bytes : 4096 < last_end 0 ends → Writes bs ends d (Refused TextTooLong) d
+          pub long_bytes : 4096 < last_end 0 ends → Writes bs ends d (Err TextTooLong) d
           long_bytes h =
               let laid = cut_is_laid_again bs ends fit in
               let used = ap length laid.bytes ∙ length-take-le (last_end 0 ends) bs laid.inside in
@@ -72,12 +75,11 @@ module _ (bs : Bytes) (ends : List ℕ) (d : Bytes) where
 
           -- the text has been put at the front of another buffer, and is copied from there
           pub text_copied : (other text : Bytes) (r : ℕ) (d' : Bytes) → Puts other 0 (written (items_in bs ends)) r text → r ≤ 4096
-              → d' ≡ cond (leb (0 + length (take (r - 0) text)) (length d)) (put d 0 (take (r - 0) text)) d → Writes bs ends d (Accepted r) d'
+              → d' ≡ cond (leb (0 + length (take r text)) (length d)) (put d 0 (take r text)) d → Writes bs ends d (Ok r) d'
           text_copied other text r d' p h e =
               let t : Bytes = written (items_in bs ends) in
               let size : r ≡ length t = p.behind ∙ zero-add (length t) in
-              let n : r - 0 ≡ length t = omega arith in
-              let front : take (r - 0) text ≡ t = rw (n, p.after) (take_at t (drop (0 + length t) other) (length t) refl) in
+              let front : take r text ≡ t = rw (size, p.after) (take_at t (drop (0 + length t) other) (length t) refl) in
               let w = text_written (omega arith) in
               let fits : leb (0 + length t) (length d) ≡ true = le-leb (0 + length t) (length d) (omega arith) in
               record {

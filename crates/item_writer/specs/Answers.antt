@@ -1,17 +1,16 @@
 -- What the answer of `write` means in the rules, and what a call leaves in the buffer.
-use Rattle.std.specs.Prelude.{◌≡◌, ℕ, List, length}
+use Rattle.std.specs.Prelude.{◌≡◌, ℕ, List, length, Result, Ok, Err}
 use Rattle.lines.specs.Bytes.{Bytes}
 use Rattle.lines.specs.Answers.{Outcome, accepted, refused}
 use Rattle.lines.specs.Buffers.{filled}
 use Rattle.items.specs.Answers.{error_means}
 use Rattle.items.specs.Write.{write_in}
-use Rattle.item_writer.specs.declared.writer.WriteAnswer.{WriteAnswer}
-use Rattle.item_writer.specs.declared.writer.WriteAnswer.TheVariants.{Accepted, Refused}
+use Rattle.items.specs.declared.error.Error.{Error}
 
 -- the length of the text, or the refusal
-abbrev pub write_means : WriteAnswer → Outcome ℕ
-write_means (Accepted n) = accepted n
-write_means (Refused e) = error_means e
+abbrev pub write_means : Result ℕ Error → Outcome ℕ
+write_means (Ok n) = accepted n
+write_means (Err e) = error_means e
 
 -- the length of a text
 abbrev pub measured : Outcome Bytes → Outcome ℕ
@@ -24,6 +23,6 @@ text_after (accepted t) d = filled t d
 text_after (refused n p) d = d
 
 -- the promise of `write`: the answer, and the whole buffer
-pub record Writes (bytes : Bytes) (ends : List ℕ) (out : Bytes) (r : WriteAnswer) (out' : Bytes) : Type 0 where
+pub record Writes (bytes : Bytes) (ends : List ℕ) (out : Bytes) (r : Result ℕ Error) (out' : Bytes) : Type 0 where
   pub answer : write_means r ≡ measured (write_in (length out) bytes ends)
   pub new_out : out' ≡ text_after (write_in (length out) bytes ends) out

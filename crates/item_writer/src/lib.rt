@@ -3,4 +3,4 @@
 
 mod writer;
 
-pub use writer::{WriteAnswer, write};
+pub use writer::write;

@@ -1,22 +1,13 @@
 // The writer: items into a text.
-ghost use Rattle.std.specs.Prelude.{◌≡◌, ◌+◌, ◌*◌, ◌≤◌, ◌<◌, true, ◌++◌, length, eqb};
-ghost use Rattle.lines.specs.Bytes.{any};
+ghost use Rattle.std.specs.Prelude.{◌≡◌, ◌+◌, ◌*◌, ◌≤◌, ◌<◌, true, ◌++◌, length};
 ghost use Rattle.items.specs.Escapes.{control_letters, sign_letters};
 ghost use Rattle.items.specs.Write.{bare_byte, is_bare, letter_of, hex_digit, written_byte, in_quotes, written_item, written, ends_fit, items_in, last_end};
-ghost use Rattle.items.specs.Steps.{letter_means};
 ghost use Rattle.lines.specs.Buffers.{Puts};
 ghost use Rattle.item_writer.specs.Steps.{following};
 ghost use Rattle.item_writer.specs.Answers.{Writes};
 
 use items::Error;
 use lines::{copy_into, is_between, is_digit, is_letter};
-
-#[derive(Clone, Copy)]
-pub enum WriteAnswer {
-    // How many bytes the text has.
-    Accepted { length: usize },
-    Refused(Error),
-}
 
 // The longest text that may be written; a buffer for it has at least as many bytes.
 const LONGEST: usize = 4096;
@@ -29,48 +20,19 @@ const SCRATCH: usize = 4 * LONGEST + 3 * MOST_ITEMS;
 
 // ---- tests
 
-// Whether a byte occurs.
-fn contains(bytes: &[u8], b: u8) -> bool
-    ensures { result ≡ any (λ c. eqb c b) bytes.now }
-{
-    let mut i = 0;
-    while i < bytes.len() {
-        if bytes[i] == b {
-            return true;
-        }
-        i += 1;
-    }
-    false
-}
-
 // A byte that a bare item may have.
+#[tactic(auto, unfolding(items::specs::Write::bare_byte, lines::specs::Bytes::any))]
 fn is_bare_byte(b: u8) -> bool
     ensures { result ≡ bare_byte b }
 {
-    if is_letter(b) {
-        return true;
-    }
-    if is_digit(b) {
-        return true;
-    }
-    contains(b"-_./:@%,+", b)
+    is_letter(b) || is_digit(b) || b"-_./:@%,+".contains(&b)
 }
 
 // An item that stands without quotes.
 fn is_bare(item: &[u8]) -> bool
     ensures { result ≡ is_bare item.now }
 {
-    if item.len() == 0 {
-        return false;
-    }
-    let mut i = 0;
-    while i < item.len() {
-        if !is_bare_byte(item[i]) {
-            return false;
-        }
-        i += 1;
-    }
-    true
+    !item.is_empty() && item.iter().all(|b| is_bare_byte(*b))
 }
 
 // No end lies below the one before it, nor past the bytes, of which there are `size`.
@@ -78,17 +40,11 @@ fn ends_fit(ends: &[usize], size: usize) -> bool
     ensures { result ≡ ends_fit 0 size ends.now }
 {
     let mut last = 0;
-    let mut i = 0;
-    while i < ends.len() {
-        let end = ends[i];
-        if end < last {
+    for end in ends {
+        if *end < last || size < *end {
             return false;
         }
-        if size < end {
-            return false;
-        }
-        last = end;
-        i += 1;
+        last = *end;
     }
     true
 }
@@ -97,45 +53,28 @@ fn ends_fit(ends: &[usize], size: usize) -> bool
 fn last_end(ends: &[usize]) -> usize
     ensures { result ≡ last_end 0 ends.now }
 {
-    if ends.len() == 0 {
-        return 0;
-    }
-    ends[ends.len() - 1]
+    ends.last().copied().unwrap_or(0)
 }
 
 // ---- a byte inside quotes
 
-// The letter of a control byte that has a letter escape; 0 where it has none.
-fn control_letter(b: u8) -> u8
-    ensures { letter_means result ≡ letter_of control_letters b }
+// The letter of a byte that has a letter escape. Most bytes are 20 to 7E, and are told by comparisons alone.
+#[tactic(auto, unfolding(items::specs::Write::letter_of))]
+fn letter_of(b: u8) -> Option<u8>
+    ensures { result ≡ letter_of (control_letters ++ sign_letters) b }
 {
     match b {
-        0x07 => b'a',
-        0x08 => b'b',
-        0x0C => b'f',
-        0x0A => b'n',
-        0x0D => b'r',
-        0x09 => b't',
-        0x0B => b'v',
-        _ => 0,
+        b'\\' | b'"' => Some(b),
+        0x20..=0x7E => None,
+        0x07 => Some(b'a'),
+        0x08 => Some(b'b'),
+        0x0C => Some(b'f'),
+        0x0A => Some(b'n'),
+        0x0D => Some(b'r'),
+        0x09 => Some(b't'),
+        0x0B => Some(b'v'),
+        _ => None,
     }
-}
-
-// The letter of any byte that has a letter escape, the two signs among them; 0 where it has none. Most bytes are 20 to 7E,
-// and are told by comparisons alone.
-fn letter_of(b: u8) -> u8
-    ensures { letter_means result ≡ letter_of (control_letters ++ sign_letters) b }
-{
-    if b == b'\\' {
-        return b;
-    }
-    if b == b'"' {
-        return b;
-    }
-    if is_between(0x20, 0x7E, b) {
-        return 0;
-    }
-    control_letter(b)
 }
 
 // A lower-case hex digit.
@@ -155,8 +94,7 @@ fn put_byte(b: u8, text: &mut [u8], at: usize) -> usize
     requires { at + 4 ≤ length text.old }
     ensures { Puts text.old at (written_byte b) result text.new }
 {
-    let letter = letter_of(b);
-    if letter != 0 {
+    if let Some(letter) = letter_of(b) {
         copy_into(&[b'\\', letter], text, at);
         return at + 2;
     }
@@ -178,10 +116,8 @@ fn put_quoted(item: &[u8], text: &mut [u8], at: usize) -> usize
     ensures { Puts text.old at (in_quotes item.now) result text.new }
 {
     let mut end = at;
-    let mut i = 0;
-    while i < item.len() {
-        end = put_byte(item[i], text, end);
-        i += 1;
+    for b in item {
+        end = put_byte(*b, text, end);
     }
     end
 }
@@ -220,12 +156,9 @@ fn put_list(bytes: &[u8], ends: &[usize], text: &mut [u8]) -> usize
 {
     let mut at = 0;
     let mut start = 0;
-    let mut i = 0;
-    while i < ends.len() {
-        let end = ends[i];
-        at = put_next(&bytes[start..end], i, text, at);
-        start = end;
-        i += 1;
+    for (i, end) in ends.iter().enumerate() {
+        at = put_next(&bytes[start..*end], i, text, at);
+        start = *end;
     }
     at
 }
@@ -234,31 +167,31 @@ fn put_list(bytes: &[u8], ends: &[usize], text: &mut [u8]) -> usize
 
 // Writes the items that `ends` cut out of `bytes`; `out` has at least 4,096 bytes. The rest of it stays, and a
 // refused call changes nothing.
-pub fn write(bytes: &[u8], ends: &[usize], out: &mut [u8]) -> WriteAnswer
+pub fn write(bytes: &[u8], ends: &[usize], out: &mut [u8]) -> Result<usize, Error>
     ensures { Writes bytes.now ends.now out.old result out.new }
 {
     if out.len() < LONGEST {
-        return WriteAnswer::Refused(Error::ShortBuffer);
+        return Err(Error::ShortBuffer);
     }
     if MOST_ITEMS < ends.len() {
-        return WriteAnswer::Refused(Error::TooManyItems(0));
+        return Err(Error::TooManyItems(0));
     }
     if !ends_fit(ends, bytes.len()) {
-        return WriteAnswer::Refused(Error::BadEnds);
+        return Err(Error::BadEnds);
     }
     let used = last_end(ends);
-    if contains(&bytes[0..used], 0x00) {
-        return WriteAnswer::Refused(Error::NulByte);
+    if bytes[..used].contains(&0x00) {
+        return Err(Error::NulByte);
     }
     // No byte is written as less than one.
     if LONGEST < used {
-        return WriteAnswer::Refused(Error::TextTooLong);
+        return Err(Error::TextTooLong);
     }
     let mut text = [0u8; SCRATCH];
     let length = put_list(bytes, ends, &mut text);
     if LONGEST < length {
-        return WriteAnswer::Refused(Error::TextTooLong);
+        return Err(Error::TextTooLong);
     }
-    copy_into(&text[0..length], out, 0);
-    WriteAnswer::Accepted { length }
+    copy_into(&text[..length], out, 0);
+    Ok(length)
 }

@@ -1,21 +1,24 @@
 -- Digits read from left to right: with one digit more the number is multiplied by the base, and the digit added.
 -- A number of up to eight digits fits 64 bits.
-use mathlib.Core.Path.{◌≡◌, refl, sym, ap, ◌∙◌}
-use Prim.Native.Nat.{ℕ, zero, suc, ◌+◌, ◌*◌, ◌^◌, ◌≤◌, ◌<◌}
+use mathlib.Core.Path.{◌≡◌, sym, ap, ◌∙◌}
+use Prim.Native.Nat.{ℕ, suc, ◌+◌, ◌*◌, ◌^◌, ◌≤◌, ◌<◌}
 use native.Mathlib.Nat.{pow-zero, mul-one, pow-suc, mul_assoc, add-mul, mul-le-mul_left, pow-le-pow_right}
 use native.Mathlib.Numerals.{add-one}
 use native.Mathlib.Omega.{arith}
-use mathlib.Core.Bool.{Bool, true, false}
-use mathlib.Core.Option.{none, some}
+use mathlib.Core.Bool.{true}
+use Rattle.std.specs.Prelude.{Some}
 use mathlib.Core.List.{[], ◌∷◌, ◌++◌}
 use lib.Arith.{digits_lt}
-use lib.Dec.{lit<, leb}
+use lib.Dec.{lit<}
 use lib.ListN.{length, take, get_or, length-append}
-use lib.Seq.{take-suc}
-use borrow.Author.Tests.{lt-ltb, le-ltb, le-leb, lt-leb}
+use lib.Seq.{take-suc, length-take-le}
+use Rattle.std.proofs.lemmas.List.{get_or-take}
+use Rattle.std.proofs.lemmas.Option.{cond_some}
+use borrow.Author.Tests.{ltb-true}
 use Rattle.lines.specs.Bytes.{Bytes, all}
-use Rattle.lines.proofs.Bools.{all_append, and_false}
-use Rattle.items.specs.Escapes.{digit_value, digit_of, value, number}
+use Rattle.lines.proofs.Bools.{all_append}
+use Rattle.items.specs.Escapes.{digit_value, digit_of, value}
+use Rattle.items.specs.Steps.{digit_in}
 
 -- m · b^(n+1) is b times m · b^n
 power_out : (m b n : ℕ) → m * b ^ suc n ≡ m * b ^ n * b
@@ -29,15 +32,6 @@ value_snoc base (x ∷ a) c =
     rw (n, value_snoc base a c)
     (omega (arith, power_out (digit_value x) base (length a), add-mul (digit_value x * base ^ length a) (value base a) base))
 
--- one byte that fails
-all_fails : (p : ℕ → Bool) (t : Bytes) (n i : ℕ) → i < n → i < length t → p (get_or t i 0) ≡ false → all p (take n t) ≡ false
-unfolding all
-all_fails p [] n i h l e = absurd (omega arith)
-all_fails p (b ∷ t) zero i h l e = absurd (omega arith)
-all_fails p (b ∷ t) (suc n) zero h l e = rw e
-all_fails p (b ∷ t) (suc n) (suc i) h l e =
-    rw (all_fails p t n i (omega arith) (omega arith) e) (and_false (p b))
-
 -- the first i of n bytes were read: they are digits, and v is their number
 pub record DigitsRead (t : Bytes) (base n i v : ℕ) : Type 0 where
   pub few : i ≤ n
@@ -47,50 +41,42 @@ pub record DigitsRead (t : Bytes) (base n i v : ℕ) : Type 0 where
   pub small : v < 16 ^ i
 
 module _ (t : Bytes) (base n : ℕ) where
-  pub too_short : length t < n → none ≡ number base n t
-  unfolding number
-  too_short h = rw (lt-leb n (length t) h)
+  module _ (i v : ℕ) (r : DigitsRead t base n i v) (l : i < length (take n t)) where
+    h : i < n
+    h = omega (arith, length-take-le n t r.there)
 
-  pub digits_start : n ≤ length t → DigitsRead t base n 0 0
-  unfolding all value
-  digits_start h = record { few = omega arith; there = h; digits = refl; value_is = refl; small = omega arith }
+    here : get_or (take n t) i 0 ≡ get_or t i 0
+    here = get_or-take n t i 0 h
 
-  module _ (i v d : ℕ) (r : DigitsRead t base n i v) (h : i < n) (e : d ≡ digit_value (get_or t i 0)) where
-    pub no_digit : base ≤ d → none ≡ number base n t
-    unfolding number
-    no_digit l =
-        let k : base ≤ digit_value (get_or t i 0) = omega arith in
-        rw (all_fails (digit_of base) t n i h (omega arith) (le-ltb (digit_value (get_or t i 0)) base k), and_false (leb n (length t)))
+    module _ (d : ℕ) (q : Some d ≡ digit_in base (get_or (take n t) i 0)) (b : base ≤ 16) where
+      known : (digit_of base (get_or t i 0) ≡ true) × (digit_value (get_or t i 0) ≡ d)
+      known = rw here at (cond_some (digit_of base (get_or (take n t) i 0)) (digit_value (get_or (take n t) i 0)) d (sym q))
 
-    module _ (l : d < base) (b : base ≤ 16) where
+      low : d < base
+      low = omega (arith, ltb-true (digit_value (get_or t i 0)) base known.0, known.1)
+
       grown : v * base + d < 16 ^ (i + 1)
       grown =
           let p : 16 ^ (i + 1) ≡ 16 ^ i * 16 = ap (λ (m : ℕ). 16 ^ m) (omega arith) ∙ pow-suc 16 i in
-          omega (arith, p, digits_lt r.small l, mul-le-mul_left (16 ^ i) b)
+          omega (arith, p, digits_lt r.small low, mul-le-mul_left (16 ^ i) b)
 
       -- so neither the product nor the sum wraps
       pub digit-fits : n ≤ 8 → v * base + d < 2 ^ 64
       digit-fits m =
-          let k : i + 1 ≤ 8 = omega arith in
+          let k : i + 1 ≤ 8 = omega (arith, h) in
           omega (arith, grown, pow-le-pow_right {n = 16} (lit< tt) k)
 
       pub one_digit : DigitsRead t base n (i + 1) (v * base + d)
       unfolding all
       one_digit =
-          let q : take (i + 1) t ≡ take i t ++ get_or t i 0 ∷ [] = rw add-one (take-suc t i 0 (omega arith)) in
-          let k : digit_value (get_or t i 0) < base = omega arith in
+          let m : i < length t = omega (arith, r.there, h) in
+          let s : take (i + 1) t ≡ take i t ++ get_or t i 0 ∷ [] = rw add-one (take-suc t i 0 m) in
           record {
-            few = omega arith;
+            few = omega (arith, h);
             there = r.there;
             digits =
-                ap (all (digit_of base)) q ∙ all_append (digit_of base) (take i t) (get_or t i 0 ∷ [])
-                ∙ rw (r.digits, lt-ltb (digit_value (get_or t i 0)) base k);
-            value_is = sym (ap (value base) q ∙ value_snoc base (take i t) (get_or t i 0) ∙ rw (← r.value_is, ← e));
+                ap (all (digit_of base)) s ∙ all_append (digit_of base) (take i t) (get_or t i 0 ∷ [])
+                ∙ rw (r.digits, known.0);
+            value_is = sym (ap (value base) s ∙ value_snoc base (take i t) (get_or t i 0) ∙ rw (← r.value_is, known.1));
             small = grown;
           }
-
-  pub all_digits : (i v : ℕ) → DigitsRead t base n i v → n ≤ i → some v ≡ number base n t
-  unfolding number
-  all_digits i v r h =
-      let e : n ≡ i = omega arith in
-      rw (r.value_is, e, le-leb i (length t) (omega arith), r.digits)

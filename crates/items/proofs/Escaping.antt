@@ -5,7 +5,7 @@ use Prim.Native.Nat.{ℕ, suc, ◌+◌, ◌≤◌}
 use Prim.Native.Char.{code}
 use native.Mathlib.Omega.{arith}
 use mathlib.Core.Bool.{Bool, ◌&&◌}
-use mathlib.Core.Option.{Option, none, some}
+use Rattle.std.specs.Prelude.{Option, None, Some}
 use mathlib.Core.List.{[], ◌∷◌, ◌++◌}
 use lib.ListN.{length, take, length-append}
 use lib.Seq.{length-take-le, take-append-add, take_at}
@@ -20,12 +20,12 @@ use Rattle.items.specs.Grammar.{Gives}
 
 -- ---- numbers
 
-number_fits : (base n : ℕ) (t : Bytes) (v : ℕ) → number base n t ≡ some v → n ≤ length t
+number_fits : (base n : ℕ) (t : Bytes) (v : ℕ) → number base n t ≡ Some v → n ≤ length t
 unfolding number
 number_fits base n t v h =
     by_cases (leb n (length t) && all (digit_of base) (take n t))
     (λ e. leb-true n (length t) (and_left (leb n (length t)) (all (digit_of base) (take n t)) e))
-    (λ e. let z : none ≡ some v = rw e at h in clash cc)
+    (λ e. let z : None ≡ Some v = rw e at h in clash cc)
 
 -- the bytes that are read, and others behind them
 number_again : (base k : ℕ) (front t rest : Bytes) → k ≤ length t
@@ -60,8 +60,8 @@ form_local allowed give base k c front form at t =
     rw (form at t) (go (number base (length front + k) (front ++ t)) refl)
   where
     go : (o : Option ℕ) → number base (length front + k) (front ++ t) ≡ o → Local (c ∷ t) (numeric allowed give (suc k) at o)
-    go none e = tt
-    go (some v) e =
+    go None e = tt
+    go (Some v) e =
         let h : k ≤ length t = omega (arith, number_fits base (length front + k) (front ++ t) v e, length-append front t) in
         by_cases (allowed v)
         (λ y. rw y (omega arith, (λ at' rest. form at' (take k t ++ rest) ∙ rw (number_again base k front t rest h, e, y))))
@@ -73,8 +73,8 @@ escape_local at [] = tt
 escape_local at (c ∷ t) = go (byte_of letters c) refl
   where
     go : (o : Option ℕ) → byte_of letters c ≡ o → Local (c ∷ t) (escape at (c ∷ t))
-    go (some b) e = rw e (omega arith, (λ at' rest. rw e))
-    go none e =
+    go (Some b) e = rw e (omega arith, (λ at' rest. rw e))
+    go None e =
         by_cases (eqb c (code "x"))
         (λ x. form_local one_byte (λ v. v ∷ []) 16 2 c [] (λ at t. rw (e, x)) at t)
         (λ x. by_cases (eqb c (code "u"))

@@ -4,18 +4,20 @@ use mathlib.Core.Path.{◌≡◌, refl, sym, ap, subst, ◌∙◌}
 use Prim.Native.Nat.{ℕ, ◌+◌, ◌≤◌}
 use native.Mathlib.Nat.{add-zero}
 use native.Mathlib.Omega.{arith}
-use mathlib.Core.List.{List, [], ◌∷◌, ◌++◌, append_assoc, append-nil}
+use mathlib.Core.List.{List, [], ◌++◌, append_assoc, append-nil}
+use mathlib.Core.Bool.{cond}
+use lib.Dec.{leb}
 use lib.ListN.{length, length-append}
-use lib.Seq.{length-take-le}
 use Rattle.lines.specs.Bytes.{Bytes}
 use Rattle.lines.specs.Buffers.{put}
-use Rattle.lines.proofs.Buffers.{put_nil, put-put}
+use Rattle.lines.proofs.Buffers.{put_nil, put-put, length-put, copied}
 use Rattle.items.specs.Pieces.{Piece}
 use Rattle.items.specs.Split.{Step, item, end, refusal, with_bytes}
 use Rattle.items.specs.Steps.{few_bytes, pieces_at, rest_of, PieceAt, BytesAt, EndsAt, ItemRead}
-use Rattle.items.specs.declared.escapes.Few.{Few}
+use Rattle.items.specs.declared.few.Few.{Few}
 use Rattle.items.specs.declared.pieces.Mode.{Mode}
 use Rattle.items.specs.declared.pieces.Piece as code
+use Rattle.std.specs.Prelude.{Ok}
 
 -- ---- bytes before the rest of an item
 
@@ -65,21 +67,24 @@ module _ (t : Bytes) (m : Mode) (start n : ℕ) (d : Bytes) where
       }
 
   module _ (buffer : Bytes) (at size : ℕ) (r : Reading t m start n d buffer at size) where
-    -- one piece more
-    pub reading_more : (f : Few) (next : ℕ) → BytesAt m t at f next → (buffer' : Bytes) → buffer' ≡ put buffer size (few_bytes f)
-        → length buffer' ≡ length buffer → n ≤ length d → Reading t m start n d buffer' next (size + f.count)
-    reading_more f next b buffer' e l h =
-        let k : length (few_bytes f) ≡ f.count = length-take-le f.count (f.b0 ∷ f.b1 ∷ f.b2 ∷ f.b3 ∷ []) b.short in
+    -- one piece more, copied to the end of the bytes
+    pub reading_more : (f : Few) (next : ℕ) → BytesAt m t at f next → (p : Bytes) → p ≡ few_bytes f → (buffer' : Bytes)
+        → buffer' ≡ cond (leb (size + length p) (length buffer)) (put buffer size p) buffer → length t ≤ length d → n ≤ length d
+        → Reading t m start n d buffer' next (size + length p)
+    reading_more f next b p e buffer' q h k =
+        let l = ap length e in
+        let fit : size + length p ≤ length buffer = omega (arith, b.fits, b.inside, r.fits, r.same) in
+        let w : buffer' ≡ put buffer size (few_bytes f) = copied buffer buffer' p size fit q ∙ ap (put buffer size) e in
         record {
           bytes = r.bytes ++ few_bytes f;
           step = r.step ∙ ap (with_bytes r.bytes) b.step ∙ with_both r.bytes (few_bytes f) (rest_of m (pieces_at t next));
           buffer_is =
-              e ∙ ap (λ (x : Bytes). put x size (few_bytes f)) r.buffer_is ∙ ap (λ (i : ℕ). put (put d n r.bytes) i (few_bytes f)) r.size_is
-              ∙ put-put d n r.bytes (few_bytes f) h;
-          size_is = omega (arith, k, r.size_is, length-append r.bytes (few_bytes f));
+              w ∙ ap (λ (x : Bytes). put x size (few_bytes f)) r.buffer_is ∙ ap (λ (i : ℕ). put (put d n r.bytes) i (few_bytes f)) r.size_is
+              ∙ put-put d n r.bytes (few_bytes f) k;
+          size_is = omega (arith, r.size_is, length-append r.bytes (few_bytes f));
           fits = omega (arith, b.fits, r.fits);
           inside = b.inside;
-          same = l ∙ r.same;
+          same = ap length w ∙ length-put buffer size (few_bytes f) (omega arith) ∙ r.same;
         }
 
     -- the item has ended
@@ -98,6 +103,6 @@ module _ (t : Bytes) (m : Mode) (start n : ℕ) (d : Bytes) where
     pub reading_refused : (k p : ℕ) → rest_of m (pieces_at t at) ≡ refusal k p → rest_of m (pieces_at t start) ≡ refusal k p
     reading_refused k p e = r.step ∙ ap (with_bytes r.bytes) e ∙ with_refusal r.bytes k p
 
--- an answer that is known
-pub piece_known : (m : Mode) (t : Bytes) (at : ℕ) (r r' : code.Piece) → r ≡ r' → PieceAt m t at r → PieceAt m t at r'
-piece_known m t at r r' e h = subst (PieceAt m t at) e h
+-- a piece that is known
+pub piece_known : (m : Mode) (t : Bytes) (at : ℕ) (p q : code.Piece) → p ≡ q → PieceAt m t at (Ok p) → PieceAt m t at (Ok q)
+piece_known m t at p q e h = subst (λ (x : code.Piece). PieceAt m t at (Ok x)) e h

@@ -1,12 +1,13 @@
 -- What stands at an offset of a text, as a piece, and what it does to the rest of an item.
-use mathlib.Core.Path.{◌≡◌, refl, sym, ap, subst, ◌∙◌}
+use mathlib.Core.Path.{◌≡◌, refl, sym, ap, ◌∙◌}
 use Prim.Native.Nat.{ℕ, suc, ◌+◌, ◌≤◌, ◌<◌}
 use native.Mathlib.Numerals.{add-one}
 use native.Mathlib.Omega.{arith}
 use mathlib.Core.Bool.{Bool, true, false}
 use mathlib.Core.List.{List, [], ◌∷◌}
 use lib.ListN.{length, drop, get_or, drop_of_length-le, length-drop}
-use lib.Seq.{drop-drop, length-take-le}
+use lib.Seq.{drop-drop}
+use Rattle.std.specs.Prelude.{Result, Ok, Err}
 use borrow.Author.Tests.{eq-eqb, ne_eqb}
 use Rattle.lines.specs.Bytes.{Bytes, blank}
 use Rattle.lines.specs.Answers.{accepted, refused}
@@ -16,11 +17,12 @@ use Rattle.items.specs.Escapes.{Escaped, escape}
 use Rattle.items.specs.Pieces.{Piece, plain, escaped, offset_of, blank_piece, backslash, quote, behind, pieces_from}
 use Rattle.items.specs.Split.{item, refusal, with_bytes, bare_item, closed_item, quoted_item, past_blanks}
 use Rattle.items.specs.Steps.{few_bytes, pieces_at, rest_of, BytesAt, EndsAt, PieceAt, ClosedAt}
-use Rattle.items.specs.declared.escapes.Few.{Few}
+use Rattle.items.specs.declared.few.Few.{Few}
 use Rattle.items.specs.declared.pieces.Mode.{Mode}
 use Rattle.items.specs.declared.pieces.Mode.TheVariants.{Bare, Quoted}
 use Rattle.items.specs.declared.pieces.Piece as code
-use Rattle.items.specs.declared.pieces.Piece.TheVariants.{Bytes as PieceBytes, End as PieceEnd, Refused as PieceRefused}
+use Rattle.items.specs.declared.pieces.Piece.TheVariants.{Bytes as PieceBytes, End as PieceEnd}
+use Rattle.items.specs.declared.error.Error.{Error}
 use Rattle.items.proofs.EscapeSteps.{Sized, escape-sized}
 use Rattle.items.proofs.PieceLaws.{pieces_nil, pieces-plain, pieces-escape, pieces_refused}
 
@@ -61,9 +63,6 @@ unfolding rest_of bare_item quoted_item
 rest_refused Bare at n p ps = refl
 rest_refused (Quoted q o) at n p ps = refl
 
-few_length : (f : Few) → f.count ≤ 4 → length (few_bytes f) ≡ f.count
-few_length f h = length-take-le f.count (f.b0 ∷ f.b1 ∷ f.b2 ∷ f.b3 ∷ []) h
-
 module _ (t : Bytes) (at : ℕ) (h : at < length t) (e : backslash (get_or t at 0) ≡ true) where
   module _ (f : Few) (n : ℕ) (q : escape at (drop (at + 1) t) ≡ accepted (record { bytes = few_bytes f; taken = n })) where
     sizes : Sized (length (drop (at + 1) t)) (accepted (record { bytes = few_bytes f; taken = n }))
@@ -72,12 +71,11 @@ module _ (t : Bytes) (at : ℕ) (h : at < length t) (e : backslash (get_or t at 
     pub escape-inside : at + 1 + n ≤ length t
     escape-inside = omega (arith, sizes.0, length-drop (at + 1) t)
 
-    pub escape-bytes : f.count ≤ 4 → (m : Mode) → BytesAt m t at f (at + 1 + n)
-    escape-bytes k m =
+    pub escape-bytes : (m : Mode) → BytesAt m t at f (at + 1 + n)
+    escape-bytes m =
         record {
-          short = k;
           step = ap (rest_of m) (at_escape t at h e _ q) ∙ rest_escape m at _ (pieces_at t (at + 1 + n));
-          fits = omega (arith, sizes.1, few_length f k);
+          fits = omega (arith, sizes.1);
           later = omega arith;
           inside = escape-inside;
         }
@@ -155,10 +153,10 @@ module _ (t : Bytes) (at : ℕ) where
       unfolding rest_of quoted_item
       quoted_closes q o e = rw (at_plain t at h n, eq-eqb (get_or t at 0) q e)
 
-      module _ (f : Few) (few : few_bytes f ≡ get_or t at 0 ∷ []) (one : f.count ≡ 1) where
+      module _ (f : Few) (few : few_bytes f ≡ get_or t at 0 ∷ []) where
         found : (m : Mode) → rest_of m (pieces_at t at) ≡ with_bytes (get_or t at 0 ∷ []) (rest_of m (pieces_at t (at + 1))) → BytesAt m t at f (at + 1)
         found m e =
-            record { short = omega arith; step = rw few e; fits = omega arith; later = omega arith; inside = omega arith }
+            record { step = rw few e; fits = omega (arith, ap length few); later = omega arith; inside = omega arith }
 
         pub bare_byte_lem : blank (get_or t at 0) ≡ false → quote (get_or t at 0) ≡ false → BytesAt Bare t at f (at + 1)
         unfolding rest_of bare_item
@@ -172,15 +170,12 @@ module _ (t : Bytes) (at : ℕ) where
 
 -- behind a quote that closes the item
 pub quoted_closed : (t : Bytes) (at q o : ℕ) (h : at < length t) → backslash (get_or t at 0) ≡ false → get_or t at 0 ≡ q
-    → (r : code.Piece) → ClosedAt t (at + 1) r → PieceAt (Quoted q o) t at r
-quoted_closed t at q o h n e (PieceBytes f next) c = absurd c
-quoted_closed t at q o h n e (PieceEnd next) c =
+    → (r : Result code.Piece Error) → ClosedAt t (at + 1) r → PieceAt (Quoted q o) t at r
+quoted_closed t at q o h n e (Ok (PieceBytes f next)) c = absurd c
+quoted_closed t at q o h n e (Ok (PieceEnd next)) c =
     record {
       step = quoted_closes t at h n q o e ∙ c.0 ∙ ap (λ (k : ℕ). item [] (pieces_at t k)) (sym c.1);
       later = omega (arith, c.1);
       inside = omega (arith, c.1);
     }
-quoted_closed t at q o h n e (PieceRefused d) c = quoted_closes t at h n q o e ∙ c
-
-pub same_mode : (m m' : Mode) (t : Bytes) (at : ℕ) (r : code.Piece) → m ≡ m' → PieceAt m' t at r → PieceAt m t at r
-same_mode m m' t at r e h = subst (λ (x : Mode). PieceAt x t at r) (sym e) h
+quoted_closed t at q o h n e (Err d) c = quoted_closes t at h n q o e ∙ c

@@ -12,53 +12,47 @@ use Rattle.lines.specs.Answers.{Outcome, refused}
 use Rattle.lines.specs.Buffers.{put}
 use Rattle.lines.proofs.Buffers.{front_copied}
 use Rattle.items.specs.Pieces.{pieces}
-use Rattle.items.specs.Split.{first_forbidden, items_of, split_of, split_in, bytes_of, ends_from}
-use Rattle.items.specs.Answers.{number_of, place_of, split_means, counted, bytes_after, ends_after, ItemsLeft, SplitLeaves, Splits}
-use Rattle.items.specs.Steps.{AllRead, ReadAll}
+use Rattle.items.specs.Split.{forbidden, items_of, split_of, split_in, bytes_of, ends_from}
+use Rattle.items.specs.Answers.{number_of, place_of, counted, bytes_after, ends_after, ItemsLeft, SplitLeaves, Splits}
+use Rattle.items.specs.Steps.{AllRead}
 use Rattle.items.specs.declared.error.Error.{Error}
 use Rattle.items.specs.declared.error.Error.TheVariants.{ShortBuffer, TextTooLong, ForbiddenByte}
-use Rattle.items.specs.declared.splitter.SplitAnswer.{SplitAnswer}
-use Rattle.items.specs.declared.splitter.SplitAnswer.TheVariants.{Accepted, Refused}
+use Rattle.items.specs.declared.splitter.Counts.{Counts}
+use Rattle.std.specs.Prelude.{Result, Ok, Err, position, Some, None}
 use Rattle.items.proofs.Forbidden.{forbidden-there, none_forbidden}
 use Rattle.items.proofs.SplitLoop.{ends-length}
 use Rattle.items.proofs.Verdicts.{enough_space}
 
 -- ---- by way of buffers of its own
 
-pub all_known : (o : Outcome (List Bytes)) (b b' : Bytes) (e e' : List ℕ) (r : SplitAnswer) (n m : ℕ) → r ≡ Accepted n m
-    → ReadAll o b b' e e' r → AllRead o n m b b' e e'
-all_known o b b' e e' r n m q h = subst (ReadAll o b b' e e') q h
-
 -- a refusal leaves the lent buffers as they were
 pub items_kept : (o : Outcome (List Bytes)) (n p : ℕ) → o ≡ refused n p → (bytes : Bytes) (ends : List ℕ) → ItemsLeft o bytes ends bytes ends
 items_kept o n p e bytes ends =
     subst (λ (x : Outcome (List Bytes)). ItemsLeft x bytes ends bytes ends) (sym e) (record { new_bytes = refl; new_ends = refl })
 
-pub apart_refused : (o : Outcome (List Bytes)) (b b' : Bytes) (e e' : List ℕ) (r : SplitAnswer) (k : Error) → r ≡ Refused k
-    → ReadAll o b b' e e' r → (bytes : Bytes) (ends : List ℕ) → SplitLeaves o bytes ends r bytes ends
-apart_refused o b b' e e' r k q h bytes ends =
-    let f : o ≡ refused (number_of k) (place_of k) = subst (ReadAll o b b' e e') q h in
-    record {
-      answer = ap split_means q ∙ sym (ap counted f);
-      left = items_kept o (number_of k) (place_of k) f bytes ends;
-    }
+pub apart_refused : (o : Outcome (List Bytes)) (k : Error) → o ≡ refused (number_of k) (place_of k) → (bytes : Bytes) (ends : List ℕ)
+    → SplitLeaves o bytes ends (Err k) bytes ends
+apart_refused o k f bytes ends =
+    record { answer = sym (ap counted f); left = items_kept o (number_of k) (place_of k) f bytes ends }
 
 -- items that were read are copied
-pub apart_copied : (o : Outcome (List Bytes)) (b b' : Bytes) (e e' : List ℕ) (n m : ℕ)
-    → AllRead o n m b b' e e' → (bytes bytes' : Bytes) (ends ends' : List ℕ) → 4096 ≤ length bytes → 256 ≤ length ends
-    → bytes' ≡ cond (leb (0 + length (take (m - 0) b')) (length bytes)) (put bytes 0 (take (m - 0) b')) bytes
-    → ends' ≡ cond (leb (0 + length (take (n - 0) e')) (length ends)) (put ends 0 (take (n - 0) e')) ends
-    → SplitLeaves o bytes ends (Accepted n m) bytes' ends'
-apart_copied o b b' e e' n m h bytes bytes' ends ends' l k p q =
+pub apart_copied : (o : Outcome (List Bytes)) (b b' : Bytes) (e e' : List ℕ) (c : Counts)
+    → AllRead o c.items c.bytes b b' e e' → (bytes bytes' : Bytes) (ends ends' : List ℕ) → 4096 ≤ length bytes → 256 ≤ length ends
+    → bytes' ≡ cond (leb (0 + length (take c.bytes b')) (length bytes)) (put bytes 0 (take c.bytes b')) bytes
+    → ends' ≡ cond (leb (0 + length (take c.items e')) (length ends)) (put ends 0 (take c.items e')) ends
+    → SplitLeaves o bytes ends (Ok c) bytes' ends'
+apart_copied o b b' e e' c h bytes bytes' ends ends' l k p q =
+    let zm : c.bytes - 0 ≡ c.bytes = omega arith in
+    let zn : c.items - 0 ≡ c.items = omega arith in
     record {
-      answer = rw (h.count_is, h.size_is) (sym (ap counted h.outcome));
+      answer = rw (← h.count_is, ← h.size_is) at (sym (ap counted h.outcome));
       left = record {
         new_bytes =
-            front_copied (bytes_of h.items) b b' bytes bytes' m h.bytes_are h.size_is (omega (arith, h.fits)) p
+            front_copied (bytes_of h.items) b b' bytes bytes' c.bytes h.bytes_are h.size_is (omega (arith, h.fits)) (rw zm p)
             ∙ sym (ap (λ (x : Outcome (List Bytes)). bytes_after x bytes) h.outcome);
         new_ends =
-            front_copied (ends_from 0 h.items) e e' ends ends' n h.ends_are (h.count_is ∙ sym (ends-length 0 h.items))
-            (omega (arith, h.few)) q
+            front_copied (ends_from 0 h.items) e e' ends ends' c.items h.ends_are (h.count_is ∙ sym (ends-length 0 h.items))
+            (omega (arith, h.few)) (rw zn q)
             ∙ sym (ap (λ (x : Outcome (List Bytes)). ends_after x ends) h.outcome);
       };
     }
@@ -66,19 +60,19 @@ apart_copied o b b' e e' n m h bytes bytes' ends ends' l k p q =
 -- ---- the call
 
 module _ (t bytes : Bytes) (ends : List ℕ) where
-  call_refused : (k : Error) → split_in (length bytes) (length ends) t ≡ refused (number_of k) (place_of k) → Splits t bytes ends (Refused k) bytes ends
+  call_refused : (k : Error) → split_in (length bytes) (length ends) t ≡ refused (number_of k) (place_of k) → Splits t bytes ends (Err k) bytes ends
   call_refused k e =
       record {
         answer = sym (ap counted e);
         left = items_kept _ (number_of k) (place_of k) e bytes ends;
       }
 
-  pub short_bytes : length bytes < 4096 → Splits t bytes ends (Refused ShortBuffer) bytes ends
+  pub short_bytes : length bytes < 4096 → Splits t bytes ends (Err ShortBuffer) bytes ends
   unfolding split_in
   short_bytes h = call_refused ShortBuffer (rw (lt-ltb (length bytes) 4096 h))
 
   module _ (hb : 4096 ≤ length bytes) where
-    pub short_ends : length ends < 256 → Splits t bytes ends (Refused ShortBuffer) bytes ends
+    pub short_ends : length ends < 256 → Splits t bytes ends (Err ShortBuffer) bytes ends
     unfolding split_in
     short_ends h = call_refused ShortBuffer (rw (le-ltb (length bytes) 4096 hb, lt-ltb (length ends) 256 h))
 
@@ -86,20 +80,20 @@ module _ (t bytes : Bytes) (ends : List ℕ) where
       enough : split_in (length bytes) (length ends) t ≡ split_of t
       enough = enough_space (length bytes) (length ends) t hb he
 
-      pub too_long : 4096 < length t → Splits t bytes ends (Refused TextTooLong) bytes ends
+      pub too_long : 4096 < length t → Splits t bytes ends (Err TextTooLong) bytes ends
       unfolding split_of
       too_long h = call_refused TextTooLong (enough ∙ rw (lt-ltb 4096 (length t) h))
 
-      module _ (ht : length t ≤ 4096) (i : ℕ) (e : i ≡ first_forbidden t) where
-        pub forbidden_byte : i < length t → Splits t bytes ends (Refused (ForbiddenByte i)) bytes ends
+      module _ (ht : length t ≤ 4096) where
+        pub forbidden_byte : (i : ℕ) → position forbidden t ≡ Some i → Splits t bytes ends (Err (ForbiddenByte i)) bytes ends
         unfolding split_of
-        forbidden_byte h =
+        forbidden_byte i h =
             call_refused (ForbiddenByte i)
-            (enough ∙ rw (le-ltb 4096 (length t) ht, forbidden-there t (omega arith), e))
+            (enough ∙ rw (le-ltb 4096 (length t) ht, (forbidden-there t i h).0, (forbidden-there t i h).1))
 
-        pub split_apart : length t ≤ i → (r : SplitAnswer) (bytes' : Bytes) (ends' : List ℕ)
+        pub split_apart : position forbidden t ≡ None → (r : Result Counts Error) (bytes' : Bytes) (ends' : List ℕ)
             → SplitLeaves (items_of 256 (pieces t)) bytes ends r bytes' ends' → Splits t bytes ends r bytes' ends'
         unfolding split_of
         split_apart h r bytes' ends' s =
-            let f : split_in (length bytes) (length ends) t ≡ items_of 256 (pieces t) = enough ∙ rw (le-ltb 4096 (length t) ht, none_forbidden t (omega arith)) in
+            let f : split_in (length bytes) (length ends) t ≡ items_of 256 (pieces t) = enough ∙ rw (le-ltb 4096 (length t) ht, none_forbidden t h) in
             subst (λ (o : Outcome (List Bytes)). SplitLeaves o bytes ends r bytes' ends') (sym f) s

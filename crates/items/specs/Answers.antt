@@ -1,13 +1,12 @@
 -- What the answers mean in the rules, and what a call of `split` leaves in the buffers.
-use Rattle.std.specs.Prelude.{◌≡◌, ℕ, List, length}
+use Rattle.std.specs.Prelude.{◌≡◌, ℕ, List, length, Result, Ok, Err}
 use Rattle.lines.specs.Bytes.{Bytes}
 use Rattle.lines.specs.Answers.{Outcome, accepted, refused}
 use Rattle.lines.specs.Buffers.{filled}
 use Rattle.items.specs.Split.{bytes_of, ends_from, split_in}
 use Rattle.items.specs.declared.error.Error.{Error}
 use Rattle.items.specs.declared.error.Error.TheVariants.{ShortBuffer, TextTooLong, ForbiddenByte, MisplacedQuote, OpenQuote, EscapeForm, EscapeValue, TooManyItems, NulByte, BadEnds}
-use Rattle.items.specs.declared.splitter.SplitAnswer.{SplitAnswer}
-use Rattle.items.specs.declared.splitter.SplitAnswer.TheVariants.{Accepted, Refused}
+use Rattle.items.specs.declared.splitter.Counts.{Counts}
 
 -- the refusals 1 and 20 to 28: number
 abbrev pub number_of : Error → ℕ
@@ -41,15 +40,10 @@ error_means e = refused (number_of e) (place_of e)
 
 -- ---- splitting
 
--- how many items there are, and how many bytes they have together
-pub record Counts : Type 0 where
-  pub items : ℕ
-  pub bytes : ℕ
-
 -- what the answer of `split` means
-abbrev pub split_means : SplitAnswer → Outcome Counts
-split_means (Accepted n m) = accepted (record { items = n; bytes = m })
-split_means (Refused e) = error_means e
+abbrev pub split_means : Result Counts Error → Outcome Counts
+split_means (Ok c) = accepted c
+split_means (Err e) = error_means e
 
 -- the counts of a list of items
 abbrev pub counted : Outcome (List Bytes) → Outcome Counts
@@ -72,10 +66,10 @@ pub record ItemsLeft (o : Outcome (List Bytes)) (bytes : Bytes) (ends : List ℕ
   pub new_ends : ends' ≡ ends_after o ends
 
 -- and what it answers
-pub record SplitLeaves (o : Outcome (List Bytes)) (bytes : Bytes) (ends : List ℕ) (r : SplitAnswer) (bytes' : Bytes) (ends' : List ℕ) : Type 0 where
+pub record SplitLeaves (o : Outcome (List Bytes)) (bytes : Bytes) (ends : List ℕ) (r : Result Counts Error) (bytes' : Bytes) (ends' : List ℕ) : Type 0 where
   pub answer : split_means r ≡ counted o
   pub left : ItemsLeft o bytes ends bytes' ends'
 
 -- the promise of `split`: the answer, and both buffers whole
-abbrev pub Splits : (text bytes : Bytes) (ends : List ℕ) (r : SplitAnswer) (bytes' : Bytes) (ends' : List ℕ) → Type 0
+abbrev pub Splits : (text bytes : Bytes) (ends : List ℕ) (r : Result Counts Error) (bytes' : Bytes) (ends' : List ℕ) → Type 0
 Splits text bytes ends r bytes' ends' = SplitLeaves (split_in (length bytes) (length ends) text) bytes ends r bytes' ends'

@@ -1,7 +1,6 @@
 -- Escapes, in and out of quotes. An escape is either its bytes or a refusal.
-use Rattle.std.specs.Prelude.{ℕ, ◌+◌, ◌-◌, ◌*◌, ◌^◌, Bool, not, ◌&&◌, cond, List, [], ◌∷◌, ◌++◌, length, take, eqb, leb, ltb}
+use Rattle.std.specs.Prelude.{Option, Some, None, ℕ, ◌+◌, ◌-◌, ◌*◌, ◌^◌, Bool, not, ◌&&◌, cond, List, [], ◌∷◌, ◌++◌, length, take, eqb, leb, ltb}
 use Prim.Native.Char.{code}
-use Rattle.std.proofs.Math.Option.{Option, none, some}
 use Rattle.lines.specs.Bytes.{Bytes, between, all}
 use Rattle.lines.specs.Utf8.{encoded}
 use Rattle.lines.specs.Answers.{Outcome, accepted, refused}
@@ -45,8 +44,8 @@ letters = control_letters ++ sign_letters ++ read_letters
 
 -- the byte that a letter gives, if it is listed
 unfoldable pub byte_of : List Letter → ℕ → Option ℕ
-byte_of [] c = none
-byte_of (l ∷ ls) c = cond (eqb c l.letter) (some l.byte) (byte_of ls c)
+byte_of [] c = None
+byte_of (l ∷ ls) c = cond (eqb c l.letter) (Some l.byte) (byte_of ls c)
 
 -- ---- numbers
 
@@ -70,7 +69,7 @@ value base (c ∷ cs) = digit_value c * base ^ length cs + value base cs
 -- the number that the first n bytes write; none where there are fewer, or one of them is no digit
 unfoldable pub number : ℕ → ℕ → Bytes → Option ℕ
 unfolding all value
-number base n t = cond (leb n (length t) && all (digit_of base) (take n t)) (some (value base (take n t))) none
+number base n t = cond (leb n (length t) && all (digit_of base) (take n t)) (Some (value base (take n t))) None
 
 -- ---- escapes
 
@@ -89,8 +88,8 @@ code_point v = between 1 0x10FFFF v && not (between 0xD800 0xDFFF v)
 
 -- The escape of a number: 24 where there is none, 25 where it is not allowed. The form is judged first.
 unfoldable pub numeric : (allowed : ℕ → Bool) (give : ℕ → Bytes) (taken at : ℕ) → Option ℕ → Outcome Escaped
-numeric allowed give taken at none = refused 24 at
-numeric allowed give taken at (some v) =
+numeric allowed give taken at None = refused 24 at
+numeric allowed give taken at (Some v) =
     cond (allowed v) (accepted (record { bytes = give v; taken = taken })) (refused 25 at)
 
 -- \xHH and \OOO give one byte
@@ -113,8 +112,8 @@ digit_escape at c t =
 
 -- a letter where it is one, and a form with digits otherwise
 unfoldable pub letter_escape : Option ℕ → Outcome Escaped → Outcome Escaped
-letter_escape none other = other
-letter_escape (some b) other = accepted (record { bytes = b ∷ []; taken = 1 })
+letter_escape None other = other
+letter_escape (Some b) other = accepted (record { bytes = b ∷ []; taken = 1 })
 
 -- The escape whose backslash stands at an offset, by the text behind the backslash. The place of a refusal is that
 -- offset.

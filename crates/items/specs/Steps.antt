@@ -1,64 +1,38 @@
 -- What the functions inside the crate promise: escapes, and the steps of reading an item into a buffer.
-use Rattle.std.specs.Prelude.{◌≡◌, ℕ, ◌+◌, ◌≤◌, ◌<◌, false, cond, List, [], ◌∷◌, length, take, drop, get_or, eqb}
-use Rattle.std.proofs.Math.Option.{Option, none, some}
+use Rattle.std.specs.Prelude.{◌≡◌, ℕ, ◌+◌, ◌≤◌, ◌<◌, true, false, cond, List, [], length, take, drop, get_or, Option, Some, None, Result, Ok, Err}
 use Rattle.lines.specs.Bytes.{Bytes, blank}
 use Rattle.lines.specs.Answers.{Outcome, accepted}
 use Rattle.lines.specs.Buffers.{put, filled}
-use Rattle.items.specs.Escapes.{Escaped}
+use Rattle.items.specs.Escapes.{digit_value, digit_of, Escaped}
 use Rattle.items.specs.Pieces.{pieces_from}
 use Rattle.items.specs.Pieces as pieces
-use Rattle.items.specs.Split.{item, end, refusal, with_bytes, bare_item, quoted_item, closed_item, past_blanks, bytes_of, ends_from}
+use Rattle.items.specs.Split.{item, end, refusal, with_bytes, bare_item, quoted_item, closed_item, bytes_of, ends_from}
 use Rattle.items.specs.Split as split
 use Rattle.items.specs.Answers.{number_of, place_of, error_means}
 use Rattle.items.specs.declared.error.Error.{Error}
-use Rattle.items.specs.declared.escapes.Number.{Number}
-use Rattle.items.specs.declared.escapes.Number.TheVariants.{Value, Malformed}
-use Rattle.items.specs.declared.escapes.Few.{Few}
+use Rattle.items.specs.declared.few.Few.{Few}
 use Rattle.items.specs.declared.escapes.Escape.{Escape}
-use Rattle.items.specs.declared.escapes.Escape.TheVariants.{Bytes as EscapeBytes, Refused as EscapeRefused}
 use Rattle.items.specs.declared.pieces.Mode.{Mode}
 use Rattle.items.specs.declared.pieces.Mode.TheVariants.{Bare, Quoted}
 use Rattle.items.specs.declared.pieces.Piece.{Piece}
-use Rattle.items.specs.declared.pieces.Piece.TheVariants.{Bytes as PieceBytes, End as PieceEnd, Refused as PieceRefused}
-use Rattle.items.specs.declared.splitter.Step.{Step}
-use Rattle.items.specs.declared.splitter.Step.TheVariants.{Item, End, Refused}
-use Rattle.items.specs.declared.splitter.SplitAnswer.{SplitAnswer}
-use Rattle.items.specs.declared.splitter.SplitAnswer.TheVariants.{Accepted as SplitAccepted, Refused as SplitRefused}
+use Rattle.items.specs.declared.pieces.Piece.TheVariants.{Bytes as PieceBytes, End as PieceEnd}
+use Rattle.items.specs.declared.splitter.Counts.{Counts}
+use Rattle.items.specs.declared.splitter.Item.{Item}
 
 -- ---- escapes
 
--- a byte or a letter; 0 stands for none
-abbrev pub letter_means : ℕ → Option ℕ
-letter_means b = cond (eqb b 0) none (some b)
-
--- the number that digits write
-abbrev pub number_means : Number → Option ℕ
-number_means (Value v) = some v
-number_means Malformed = none
+-- what a byte stands for as a digit of a base, if it is one
+abbrev pub digit_in : ℕ → ℕ → Option ℕ
+digit_in base c = cond (digit_of base c) (Some (digit_value c)) None
 
 -- up to four bytes
 abbrev pub few_bytes : Few → Bytes
-few_bytes f = take f.count (f.b0 ∷ f.b1 ∷ f.b2 ∷ f.b3 ∷ [])
+few_bytes f = take f.count f.bytes
 
 -- an escape is its bytes or a refusal
-abbrev pub escape_means : Escape → Outcome Escaped
-escape_means (EscapeBytes f n) = accepted (record { bytes = few_bytes f; taken = n })
-escape_means (EscapeRefused e) = error_means e
-
--- at most four bytes
-abbrev pub AtMostFour : Escape → Type 0
-AtMostFour (EscapeBytes f n) = f.count ≤ 4
-AtMostFour (EscapeRefused e) = Unit {0}
-
--- an answer for the escape that is meant
-pub record EscapeIs (o : Outcome Escaped) (r : Escape) : Type 0 where
-  pub means : escape_means r ≡ o
-  pub short : AtMostFour r
-
--- the error of a refused escape
-abbrev pub ErrorOf : Escape → Error → Type 0
-ErrorOf (EscapeBytes f n) e = Unit {0}
-ErrorOf (EscapeRefused d) e = e ≡ d
+abbrev pub escape_means : Result Escape Error → Outcome Escaped
+escape_means (Ok e) = accepted (record { bytes = few_bytes e.bytes; taken = e.taken })
+escape_means (Err e) = error_means e
 
 -- ---- pieces
 
@@ -73,9 +47,8 @@ rest_of (Quoted q o) ps = quoted_item q o ps
 
 -- Bytes of the item at an offset, and where its next piece stands. They fit where the bytes of the text did.
 pub record BytesAt (m : Mode) (t : Bytes) (at : ℕ) (f : Few) (next : ℕ) : Type 0 where
-  pub short : f.count ≤ 4
   pub step : rest_of m (pieces_at t at) ≡ with_bytes (few_bytes f) (rest_of m (pieces_at t next))
-  pub fits : at + f.count ≤ next
+  pub fits : at + length (few_bytes f) ≤ next
   pub later : at < next
   pub inside : next ≤ length t
 
@@ -86,29 +59,28 @@ pub record EndsAt (m : Mode) (t : Bytes) (at next : ℕ) : Type 0 where
   pub inside : next ≤ length t
 
 -- what stands at an offset inside an item
-abbrev pub PieceAt : Mode → Bytes → ℕ → Piece → Type 0
-PieceAt m t at (PieceBytes f next) = BytesAt m t at f next
-PieceAt m t at (PieceEnd next) = EndsAt m t at next
-PieceAt m t at (PieceRefused e) = rest_of m (pieces_at t at) ≡ refusal (number_of e) (place_of e)
+abbrev pub PieceAt : Mode → Bytes → ℕ → Result Piece Error → Type 0
+PieceAt m t at (Ok (PieceBytes f next)) = BytesAt m t at f next
+PieceAt m t at (Ok (PieceEnd next)) = EndsAt m t at next
+PieceAt m t at (Err e) = rest_of m (pieces_at t at) ≡ refusal (number_of e) (place_of e)
 
 -- the same in and out of quotes: an escape
-abbrev pub EscapePiece : Bytes → ℕ → Piece → Type 0
+abbrev pub EscapePiece : Bytes → ℕ → Result Piece Error → Type 0
 EscapePiece t at r = (m : Mode) → PieceAt m t at r
 
 -- behind a closing quote, which stands before an offset
-abbrev pub ClosedAt : Bytes → ℕ → Piece → Type 0
-ClosedAt t at (PieceBytes f next) = ⊥
-ClosedAt t at (PieceEnd next) = (closed_item (pieces_at t at) ≡ item [] (pieces_at t at)) × (next ≡ at)
-ClosedAt t at (PieceRefused e) = closed_item (pieces_at t at) ≡ refusal (number_of e) (place_of e)
+abbrev pub ClosedAt : Bytes → ℕ → Result Piece Error → Type 0
+ClosedAt t at (Ok (PieceBytes f next)) = ⊥
+ClosedAt t at (Ok (PieceEnd next)) = (closed_item (pieces_at t at) ≡ item [] (pieces_at t at)) × (next ≡ at)
+ClosedAt t at (Err e) = closed_item (pieces_at t at) ≡ refusal (number_of e) (place_of e)
 
 -- ---- steps
 
--- the first offset from one on where no blank stands, or the end
-pub record BlanksPassed (t : Bytes) (at r : ℕ) : Type 0 where
-  pub later : at ≤ r
-  pub inside : r ≤ length t
-  pub same : past_blanks (pieces_at t at) ≡ past_blanks (pieces_at t r)
-  pub stands : r < length t → blank (get_or t r 0) ≡ false
+-- n blanks stand first, and behind them none or the end
+pub record BlanksFirst (t : Bytes) (n : ℕ) : Type 0 where
+  pub within : n ≤ length t
+  pub before : (k : ℕ) → k < n → blank (get_or t k 0) ≡ true
+  pub behind : n < length t → blank (get_or t n 0) ≡ false
 
 -- An item was read: its bytes stand in the buffer from index n on, up to index m, and reading goes on at an offset.
 pub record ItemRead (t : Bytes) (s : split.Step) (n : ℕ) (before after : Bytes) (next m : ℕ) : Type 0 where
@@ -119,11 +91,16 @@ pub record ItemRead (t : Bytes) (s : split.Step) (n : ℕ) (before after : Bytes
   pub fits : m ≤ next
   pub inside : next ≤ length t
 
--- what a step finds, and what it leaves in the buffer; after a refusal nobody reads that
-abbrev pub StepTaken : Bytes → split.Step → ℕ → Bytes → Bytes → Step → Type 0
-StepTaken t s n before after (Item next m) = ItemRead t s n before after next m
-StepTaken t s n before after End = (s ≡ end) × (after ≡ before)
-StepTaken t s n before after (Refused e) = s ≡ refusal (number_of e) (place_of e)
+-- the rest of an item, and what it leaves in the buffer; after a refusal nobody reads that
+abbrev pub ItemTaken : Bytes → split.Step → ℕ → Bytes → Bytes → Result Item Error → Type 0
+ItemTaken t s n before after (Ok i) = ItemRead t s n before after i.next i.size
+ItemTaken t s n before after (Err e) = s ≡ refusal (number_of e) (place_of e)
+
+-- what a step finds
+abbrev pub StepTaken : Bytes → split.Step → ℕ → Bytes → Bytes → Result (Option Item) Error → Type 0
+StepTaken t s n before after (Ok (Some i)) = ItemRead t s n before after i.next i.size
+StepTaken t s n before after (Ok None) = (s ≡ end) × (after ≡ before)
+StepTaken t s n before after (Err e) = s ≡ refusal (number_of e) (place_of e)
 
 -- all items were read
 pub record AllRead (o : Outcome (List Bytes)) (count size : ℕ) (bytes bytes' : Bytes) (ends ends' : List ℕ) : Type 0 where
@@ -137,6 +114,6 @@ pub record AllRead (o : Outcome (List Bytes)) (count size : ℕ) (bytes bytes' :
   pub fits : size ≤ 4096
 
 -- what reading all items gives
-abbrev pub ReadAll : Outcome (List Bytes) → (bytes bytes' : Bytes) (ends ends' : List ℕ) → SplitAnswer → Type 0
-ReadAll o bytes bytes' ends ends' (SplitAccepted count size) = AllRead o count size bytes bytes' ends ends'
-ReadAll o bytes bytes' ends ends' (SplitRefused e) = o ≡ error_means e
+abbrev pub ReadAll : Outcome (List Bytes) → (bytes bytes' : Bytes) (ends ends' : List ℕ) → Result Counts Error → Type 0
+ReadAll o bytes bytes' ends ends' (Ok c) = AllRead o c.items c.bytes bytes bytes' ends ends'
+ReadAll o bytes bytes' ends ends' (Err e) = o ≡ error_means e

@@ -1,7 +1,6 @@
 -- A list of items as a text.
-use Rattle.std.specs.Prelude.{ℕ, ◌+◌, ◌-◌, ◌/◌, ◌%◌, Bool, true, false, not, ◌&&◌, ◌||◌, cond, List, [], ◌∷◌, ◌++◌, length, take, drop, eqb, leb, ltb}
+use Rattle.std.specs.Prelude.{Option, Some, None, ℕ, ◌+◌, ◌-◌, ◌/◌, ◌%◌, Bool, true, false, not, ◌&&◌, ◌||◌, cond, List, [], ◌∷◌, ◌++◌, length, take, drop, eqb, leb, ltb}
 use Prim.Native.Char.{code}
-use Rattle.std.proofs.Math.Option.{Option, none, some}
 use Rattle.lines.specs.Bytes.{Bytes, between, letter, digit, all, any}
 use Rattle.lines.specs.Text.{bytes}
 use Rattle.lines.specs.Answers.{Outcome, accepted, refused}
@@ -23,8 +22,8 @@ is_bare (b ∷ bs) = all bare_byte (b ∷ bs)
 
 -- the letter that gives a byte, if one is listed
 unfoldable pub letter_of : List Letter → ℕ → Option ℕ
-letter_of [] b = none
-letter_of (l ∷ ls) b = cond (eqb b l.byte) (some l.letter) (letter_of ls b)
+letter_of [] b = None
+letter_of (l ∷ ls) b = cond (eqb b l.byte) (Some l.letter) (letter_of ls b)
 
 -- a lower-case hex digit
 abbrev pub hex_digit : ℕ → ℕ
@@ -32,8 +31,8 @@ hex_digit n = cond (ltb n 10) (0x30 + n) (0x61 + n - 10)
 
 -- a backslash and a letter where one is listed; 20 to 7E as they are; any other byte as \x and two digits
 unfoldable pub byte_form : Option ℕ → ℕ → Bytes
-byte_form (some c) b = 0x5C ∷ c ∷ []
-byte_form none b =
+byte_form (Some c) b = 0x5C ∷ c ∷ []
+byte_form None b =
     cond (between 0x20 0x7E b) (b ∷ []) (0x5C ∷ code "x" ∷ hex_digit (b / 16) ∷ hex_digit (b % 16) ∷ [])
 
 -- a byte inside double quotes; letters are the seven for control bytes, \\ and \"

@@ -2,8 +2,10 @@
 ghost use Rattle.std.specs.Prelude.{◌≡◌};
 ghost use Rattle.items.specs.Answers.{number_of, place_of};
 
+use std::fmt;
+
 // A fault in a text carries its offset.
-#[derive(Clone, Copy)]
+#[derive(Clone, Copy, Debug, PartialEq, Eq)]
 pub enum Error {
     ShortBuffer,
     TextTooLong,
@@ -43,16 +45,21 @@ impl Error {
         ensures { result ≡ place_of self }
     {
         match self {
-            Error::ShortBuffer => 0,
-            Error::TextTooLong => 0,
-            Error::ForbiddenByte(at) => at,
-            Error::MisplacedQuote(at) => at,
-            Error::OpenQuote(at) => at,
-            Error::EscapeForm(at) => at,
-            Error::EscapeValue(at) => at,
-            Error::TooManyItems(at) => at,
-            Error::NulByte => 0,
-            Error::BadEnds => 0,
+            Error::ForbiddenByte(at)
+            | Error::MisplacedQuote(at)
+            | Error::OpenQuote(at)
+            | Error::EscapeForm(at)
+            | Error::EscapeValue(at)
+            | Error::TooManyItems(at) => at,
+            Error::ShortBuffer | Error::TextTooLong | Error::NulByte | Error::BadEnds => 0,
         }
     }
 }
+
+impl fmt::Display for Error {
+    fn fmt<W: fmt::Write>(&self, f: &mut fmt::Formatter<W>) -> fmt::Result {
+        write!(f, "refused {} at {}", self.number(), self.place())
+    }
+}
+
+impl std::error::Error for Error {}

@@ -3,8 +3,9 @@
 
 mod error;
 mod escapes;
+mod few;
 mod pieces;
 mod splitter;
 
 pub use error::Error;
-pub use splitter::{SplitAnswer, split};
+pub use splitter::{Counts, split};

@@ -5,7 +5,8 @@ ghost use Rattle.items.specs.declared.pieces.Mode.TheVariants.{Bare, Quoted};
 ghost use Rattle.items.specs.Steps.{PieceAt, EscapePiece, ClosedAt};
 
 use crate::error::Error;
-use crate::escapes::{Escape, Few, escape_error, one, read_escape};
+use crate::escapes::read_escape;
+use crate::few::Few;
 use lines::is_blank;
 
 // The kind of item that is being read: bare, or in quotes of one kind that opened at an offset.
@@ -22,7 +23,6 @@ pub(crate) enum Piece {
     Bytes { bytes: Few, next: usize },
     // The item's end, and where reading goes on.
     End { next: usize },
-    Refused(Error),
 }
 
 pub(crate) fn is_quote(b: u8) -> bool
@@ -32,57 +32,54 @@ pub(crate) fn is_quote(b: u8) -> bool
 }
 
 // An escape, in and out of quotes.
-fn escape_piece(text: &[u8], at: usize) -> Piece
+fn escape_piece(text: &[u8], at: usize) -> Result<Piece, Error>
     requires { (at < length text.now) × (backslash (get_or text.now at 0) ≡ true) }
     ensures { EscapePiece text.now at result }
 {
-    let e = read_escape(text, at);
-    let Escape::Bytes { bytes, taken } = e else {
-        return Piece::Refused(escape_error(e));
-    };
-    Piece::Bytes {
-        bytes,
-        next: at + 1 + taken,
-    }
+    let e = read_escape(text, at)?;
+    Ok(Piece::Bytes {
+        bytes: e.bytes,
+        next: at + 1 + e.taken,
+    })
 }
 
 // A piece of a bare item: a blank ends it, and a quote is refused.
-fn bare_piece(text: &[u8], at: usize) -> Piece
+fn bare_piece(text: &[u8], at: usize) -> Result<Piece, Error>
     requires { at < length text.now }
     ensures { PieceAt Bare text.now at result }
 {
     let b = text[at];
     if is_blank(b) {
-        return Piece::End { next: at };
+        return Ok(Piece::End { next: at });
     }
     if is_quote(b) {
-        return Piece::Refused(Error::MisplacedQuote(at));
+        return Err(Error::MisplacedQuote(at));
     }
     if b == b'\\' {
         return escape_piece(text, at);
     }
-    Piece::Bytes {
-        bytes: one(b),
+    Ok(Piece::Bytes {
+        bytes: Few::one(b),
         next: at + 1,
-    }
+    })
 }
 
 // Behind a closing quote a blank or the end has to follow.
-fn closed_piece(text: &[u8], at: usize) -> Piece
+fn closed_piece(text: &[u8], at: usize) -> Result<Piece, Error>
     requires { at ≤ length text.now }
     ensures { ClosedAt text.now at result }
 {
     if text.len() <= at {
-        return Piece::End { next: at };
+        return Ok(Piece::End { next: at });
     }
     if is_blank(text[at]) {
-        return Piece::End { next: at };
+        return Ok(Piece::End { next: at });
     }
-    Piece::Refused(Error::MisplacedQuote(at))
+    Err(Error::MisplacedQuote(at))
 }
 
 // A piece between quotes: the same quote closes them, and the other kind is data.
-fn quoted_piece(text: &[u8], kind: u8, opening: usize, at: usize) -> Piece
+fn quoted_piece(text: &[u8], kind: u8, opening: usize, at: usize) -> Result<Piece, Error>
     requires { at < length text.now }
     ensures { PieceAt (Quoted kind opening) text.now at result }
 {
@@ -93,29 +90,21 @@ fn quoted_piece(text: &[u8], kind: u8, opening: usize, at: usize) -> Piece
     if b == kind {
         return closed_piece(text, at + 1);
     }
-    Piece::Bytes {
-        bytes: one(b),
+    Ok(Piece::Bytes {
+        bytes: Few::one(b),
         next: at + 1,
-    }
+    })
 }
 
 // The piece at an offset, or the end of the text.
-pub(crate) fn piece_at(text: &[u8], mode: Mode, at: usize) -> Piece
+pub(crate) fn piece_at(text: &[u8], mode: Mode, at: usize) -> Result<Piece, Error>
     requires { at ≤ length text.now }
     ensures { PieceAt mode text.now at result }
 {
     match mode {
-        Mode::Bare => {
-            if at < text.len() {
-                return bare_piece(text, at);
-            }
-            Piece::End { next: at }
-        }
-        Mode::Quoted { kind, opening } => {
-            if at < text.len() {
-                return quoted_piece(text, kind, opening, at);
-            }
-            Piece::Refused(Error::OpenQuote(opening))
-        }
+        Mode::Bare if at < text.len() => bare_piece(text, at),
+        Mode::Bare => Ok(Piece::End { next: at }),
+        Mode::Quoted { kind, opening } if at < text.len() => quoted_piece(text, kind, opening, at),
+        Mode::Quoted { kind: _, opening } => Err(Error::OpenQuote(opening)),
     }
 }

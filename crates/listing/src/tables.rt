@@ -62,10 +62,5 @@ pub fn print_part<T: Filler>(
         Some(next) => next.print_one(rt)?,
         None => print!(rt; "none")?,
     }
-    let rest = if show::is_kept(buffer, used) {
-        "kept"
-    } else {
-        "changed"
-    };
-    println!(rt; ", rest {rest}")
+    println!(rt; ", rest {}", show::kept_word(show::is_kept(buffer, used)))
 }

@@ -77,14 +77,8 @@ fn read_into(
     match answer {
         Ok(counts) => {
             tables::print_counts(rt, counts)?;
-            print!(rt; "
-")?;
             buffers.print(rt, counts)
         }
-        Err(e) => {
-            print!(rt; "all ")?;
-            show::print_kept(rt, buffers.all_kept())?;
-            println!(rt; "{e}")
-        }
+        Err(e) => println!(rt; "all {}, {e}", show::kept_word(buffers.all_kept())),
     }
 }

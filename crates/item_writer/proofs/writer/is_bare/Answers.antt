@@ -1,30 +1,23 @@
--- `is_bare`: the bytes passed may stand in a bare item, so what is left decides.
+-- `is_bare`: an item that is not empty is judged byte by byte.
 use mathlib.Core.Path.{sym, ◌∙◌}
 use native.Mathlib.Omega.{arith}
-use lib.ListN.{drop_of_length-le}
-use Rattle.lines.specs.Bytes.{all}
+use lib.ListN.{length}
+use borrow.Author.Tests.{eqb-true, eqb-false}
+use Rattle.std.proofs.Common.{rules, tests}
+use Rattle.std.proofs.lemmas.Iterator.{YieldsList-from_slice}
+use Rattle.std.proofs.lemmas.Iterator.Search.{all_from_yields_List}
 use Rattle.items.specs.Write.{bare_byte}
-use Rattle.lines.proofs.Slices.{all_here}
-use Rattle.item_writer.proofs.Bare.{bare_none, bare_some}
+use Rattle.item_writer.proofs.Bare.{bare_none, bare_some, all_is}
 use Rattle.item_writer.proofs.writer.is_bare.Goals as goal
 
-pub returns-then-item-eq0 : goal.returns-then-item-eq0
-returns-then-item-eq0 c = sym (bare_none _ (omega arith))
+pub returns-then-not-is_empty : goal.returns-then-not-is_empty
+returns-then-not-is_empty c =
+    let x = c.args.item.now in
+    let some = eqb-false (length x) 0 (sym c.is_empty.ensures ∙ c.if-not-is_empty.true) in
+    all_from_yields_List bare_byte _ _ c.all.result c.all.ensures.ran (YieldsList-from_slice x cc) (λ y b q k. search (rules, tests))
+    ∙ all_is bare_byte x ∙ sym (bare_some x (omega (arith, some)))
 
-pub loop-i-init : goal.loop-i-init
-loop-i-init c = (omega arith, bare_some _ (omega (arith, c.if-item-eq0.false)))
-
-pub returns-then-not-is_bare_byte : goal.returns-then-not-is_bare_byte
-returns-then-not-is_bare_byte c =
-    let e = all_here c.args.item.now c.loop-i.i (omega arith) bare_byte in
-    sym (c.loop-i.invariant.1 ∙ e ∙ rw (sym c.is_bare_byte.ensures ∙ c.if-not-is_bare_byte.true))
-
-pub loop-i-preserved : goal.loop-i-preserved
-loop-i-preserved c =
-    let e = all_here c.args.item.now c.loop-i.i (omega arith) bare_byte in
-    (omega arith, c.loop-i.invariant.1 ∙ e ∙ rw (sym c.is_bare_byte.ensures ∙ c.if-not-is_bare_byte.false))
-
-pub returns : goal.returns
-unfolding all
-returns c =
-    sym (c.loop-i.invariant.1 ∙ rw (drop_of_length-le c.args.item.now c.loop-i-test.false))
+pub returns-else-not-is_empty : goal.returns-else-not-is_empty
+returns-else-not-is_empty c =
+    let x = c.args.item.now in
+    rw c.if-not-is_empty.false (sym (bare_none x (eqb-true (length x) 0 (sym c.is_empty.ensures ∙ c.if-not-is_empty.false))))

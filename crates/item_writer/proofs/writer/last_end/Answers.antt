@@ -1,11 +1,10 @@
 -- `last_end` is the element at the last index.
-use mathlib.Core.Path.{sym}
-use native.Mathlib.Omega.{arith}
-use Rattle.item_writer.proofs.Cuts.{last_none, last_some}
+use mathlib.Core.Path.{◌≡◌, ◌∙◌}
+use Rattle.std.proofs.Common.{◌-◌, rules, length, unwrap_or, slice_get}
+use Rattle.item_writer.proofs.Cuts.{last_is}
 use Rattle.item_writer.proofs.writer.last_end.Goals as goal
 
-pub returns-then-ends-eq0 : goal.returns-then-ends-eq0
-returns-then-ends-eq0 c = sym (last_none c.args.ends.now 0 c.if-ends-eq0.true)
-
 pub returns : goal.returns
-returns c = sym (last_some c.args.ends.now 0 (omega (arith, c.if-ends-eq0.false)))
+returns c =
+    let e : c.unwrap_or.result ≡ unwrap_or (slice_get c.args.ends.now (length c.args.ends.now - 1)) 0 = search rules in
+    e ∙ last_is c.args.ends.now

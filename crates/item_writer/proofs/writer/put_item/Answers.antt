@@ -11,24 +11,11 @@ pub returns-then-is_bare : goal.returns-then-is_bare
 returns-then-is_bare c =
     rw (item_bare _ (sym c.is_bare.ensures ∙ c.if-is_bare.true)) (puts_copied _ _ _ _ (omega arith) c.copy_into.ensures.held)
 
-pub put_quoted-end-requires : goal.put_quoted-end-requires
-put_quoted-end-requires c = simp length-set (omega arith)
-
 pub bounds-text-end : goal.bounds-text-end
 bounds-text-end c =
     let as_long : let a = c.args in length c.put_quoted-end.new.text ≡ length a.text.now = c.put_quoted-end.auto.text ∙ simp length-set in
     let q = c.put_quoted-end in
     omega (arith, as_long, q.ensures.behind, quoted_most c.args.item.now)
-
-pub overflow_add-result-2 : goal.overflow_add-result-2
-overflow_add-result-2 c =
-    let q = c.put_quoted-end in
-    omega (arith, q.ensures.behind, quoted_most c.args.item.now)
-
-pub shape_of-text : goal.shape_of-text
-shape_of-text c =
-    let as_long : let a = c.args in length c.put_quoted-end.new.text ≡ length a.text.now = c.put_quoted-end.auto.text ∙ simp length-set in
-    simp length-set (as_long)
 
 pub returns : goal.returns
 returns c =

@@ -31,8 +31,5 @@ pub loop-i-preserved : goal.loop-i-preserved
 loop-i-preserved c =
     listed_more _ _ _ _ _ _ _ c.loop-i.invariant (omega arith) c.requires.1 _ _ c.put_next-at.ensures c.put_next-at.auto.text
 
-pub shape_of-text : goal.shape_of-text
-shape_of-text c = c.loop-i.invariant.same
-
 pub returns : goal.returns
-returns c = listed_done _ _ _ _ _ _ _ c.loop-i.invariant c.loop-i-test.false
+returns c = listed_done _ _ _ _ _ _ _ c.loop-i.invariant (omega arith)

@@ -1,7 +1,5 @@
 -- `put_next` puts a space before the item where others stand before it.
-use mathlib.Core.Path.{◌∙◌}
 use native.Mathlib.Omega.{arith}
-use lib.ListN.{length-set}
 use Rattle.item_writer.proofs.Written.{following_first}
 use Rattle.item_writer.proofs.Items.{puts_behind}
 use Rattle.item_writer.proofs.writer.put_next.Goals as goal
@@ -9,12 +7,6 @@ use Rattle.item_writer.proofs.writer.put_next.Goals as goal
 pub returns-then-count-eq0 : goal.returns-then-count-eq0
 returns-then-count-eq0 c =
     rw (following_first _ _ c.if-count-eq0.true) c.put_item.ensures
-
-pub put_item-requires-2 : goal.put_item-requires-2
-put_item-requires-2 c = simp length-set (omega arith)
-
-pub shape_of-text : goal.shape_of-text
-shape_of-text c = c.put_item-2.auto.text ∙ simp length-set
 
 pub returns : goal.returns
 returns c =

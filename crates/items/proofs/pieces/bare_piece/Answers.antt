@@ -1,6 +1,6 @@
 -- `bare_piece`: by the byte that stands there.
 use mathlib.Core.Path.{sym, ◌∙◌}
-use borrow.Author.Tests.{eq-eqb, ne_eqb}
+use borrow.Author.Tests.{ne_eqb}
 use Rattle.items.specs.declared.pieces.Mode.TheVariants.{Bare}
 use Rattle.items.proofs.PieceSteps.{bare_blank, bare_quote, bare_byte_lem}
 use Rattle.items.proofs.pieces.bare_piece.Goals as goal
@@ -11,11 +11,8 @@ returns-then-is_blank c = bare_blank _ _ c.requires (sym c.is_blank.ensures ∙ 
 pub returns-then-is_quote : goal.returns-then-is_quote
 returns-then-is_quote c = bare_quote _ _ c.requires (sym c.is_blank.ensures ∙ c.if-is_blank.false) (sym c.is_quote.ensures ∙ c.if-is_quote.true)
 
-pub escape_piece-requires : goal.escape_piece-requires
-escape_piece-requires c = (c.requires, eq-eqb _ _ c.if-b-eq92.true)
-
 pub returns-then-b-eq92 : goal.returns-then-b-eq92
 returns-then-b-eq92 c = c.escape_piece.ensures Bare
 
 pub returns : goal.returns
-returns c = bare_byte_lem _ _ c.requires (ne_eqb _ _ c.if-b-eq92.false) _ c.one.ensures.0 c.one.ensures.1 (sym c.is_blank.ensures ∙ c.if-is_blank.false) (sym c.is_quote.ensures ∙ c.if-is_quote.false)
+returns c = bare_byte_lem _ _ c.requires (ne_eqb _ _ c.if-b-eq92.false) _ c.one.ensures (sym c.is_blank.ensures ∙ c.if-is_blank.false) (sym c.is_quote.ensures ∙ c.if-is_quote.false)
