@@ -21,8 +21,8 @@ use Rattle.table.specs.declared.error.Error.{Error}
 use Rattle.table.specs.declared.error.Error.TheVariants.{File}
 use Rattle.normal_text.specs.Sections.{Pair, Section, sections_in}
 use Rattle.normal_text.specs.NormalText.{normal_text}
-use Rattle.normal_text.specs.declared.normal.NormalAnswer.{NormalAnswer}
-use Rattle.normal_text.specs.declared.normal.NormalAnswer.TheVariants.{Accepted as NormalAccepted, Refused as NormalRefused}
+use Rattle.std.specs.Prelude.{Result, Ok, Err}
+use Rattle.normal_text.specs.declared.normal.Sizes.{Sizes}
 use Rattle.normal_text.proofs.Laws.{normal_text_tells}
 use Rattle.claims.specs.TwoTexts.{text_of_file, filled_with, OfTwo, both, first, second, HeldByEach, held_by, alike_in, alike_means, Tells, held_after, SetAlike}
 use Rattle.claims.specs.Steps.{NormalInto, compared, text_beside, Compares}
@@ -33,7 +33,7 @@ use Rattle.claims.proofs.FileTexts.{TextOf, text_is, text_of, text_short, text_i
 
 -- ---- the second file, where the buffer for its text is not short
 
-module _ (t g out other : Bytes) (r : NormalAnswer) (other' : Bytes) (h : 65535 ≤ length other) (p : NormalInto g other r other') where
+module _ (t g out other : Bytes) (r : Result Sizes Error) (other' : Bytes) (h : 65535 ≤ length other) (p : NormalInto g other r other') where
   -- what is owed where the outcome is known
   compares : (o : Outcome Bytes) → text_of_file g ≡ o → (s : AlikeAnswer) (out' : Bytes)
       → alike_means s ≡ compared t o → out' ≡ text_beside t o out → other' ≡ filled_with o other → Compares t g out other s out' other'
@@ -45,17 +45,17 @@ module _ (t g out other : Bytes) (r : NormalAnswer) (other' : Bytes) (h : 65535 
       }
 
   -- it is refused
-  pub compares_refused : (e : Error) → r ≡ NormalRefused e → Compares t g out other (OtherRefused e) out other'
+  pub compares_refused : (e : Error) → r ≡ Err e → Compares t g out other (OtherRefused e) out other'
   compares_refused e q =
       let i = into_refused g other r other' p e q in
       compares (error_means e) (sym (text_in_lem (length other) g h) ∙ i.0) (OtherRefused e) out refl refl i.1
 
   -- it is accepted; the first text is copied, and compared with its own
-  pub compares_accepted : (n i m k : ℕ) → r ≡ NormalAccepted n i m k → length t ≤ length out
+  pub compares_accepted : (made : Sizes) → r ≡ Ok made → length t ≤ length out
       → (out' : Bytes) → out' ≡ cond (leb (0 + length t) (length out)) (put out 0 t) out
-      → (b : Bool) → b ≡ equal t (take (n - 0) other') → Compares t g out other (AlikeAccepted b) out' other'
-  compares_accepted n i m k q l out' c b e =
-      let x = into_text g other r other' p n i m k q in
+      → (b : Bool) → b ≡ equal t (take (made.length - 0) other') → Compares t g out other (AlikeAccepted b) out' other'
+  compares_accepted made q l out' c b e =
+      let x = into_text g other r other' p made q in
       let z : 0 + length t ≤ length out = omega (arith, l) in
       compares (accepted x.text) x.is (AlikeAccepted b) out'
       (ap both (e ∙ ap (equal t) x.front))
@@ -94,7 +94,7 @@ module _ (f g out other : Bytes) where
   alike_short_other h =
       alike (first 1 0) (rw (or_right (ltb (length out) 65535) (ltb (length other) 65535) (lt-ltb (length other) 65535 h))) (AlikeRefused (File ShortBuffer)) out other refl refl refl
 
-  module _ (ho : 65535 ≤ length out) (hg : 65535 ≤ length other) (text : Bytes) (ht : 65535 ≤ length text) (r : NormalAnswer) (text' : Bytes)
+  module _ (ho : 65535 ≤ length out) (hg : 65535 ≤ length other) (text : Bytes) (ht : 65535 ≤ length text) (r : Result Sizes Error) (text' : Bytes)
       (p : NormalInto f text r text') where
     -- none is short: what the files hold decides
     alike_is : alike_in (length out) (length other) f g ≡ held_by (sections_in f) (sections_in g)
@@ -102,7 +102,7 @@ module _ (f g out other : Bytes) where
     alike_is = rw (le-ltb (length out) 65535 ho, le-ltb (length other) 65535 hg)
 
     -- the first file is refused
-    pub alike_refused : (e : Error) → r ≡ NormalRefused e → SetAlike f g out other (AlikeRefused e) out other
+    pub alike_refused : (e : Error) → r ≡ Err e → SetAlike f g out other (AlikeRefused e) out other
     unfolding and_then
     alike_refused e q =
         let made : Outcome (List (Section Pair)) → Outcome Bytes = λ o. and_then o (λ ss. accepted (normal_text ss)) in
@@ -111,20 +111,20 @@ module _ (f g out other : Bytes) where
         alike (first (number_of e) (place_of e)) (alike_is ∙ rw c) (AlikeRefused e) out other refl refl refl
 
     -- the first file is accepted
-    module _ (n i m k : ℕ) (q : r ≡ NormalAccepted n i m k) where
-      abbrev known : IntoText f text n text'
-      known = into_text f text r text' p n i m k q
+    module _ (made : Sizes) (q : r ≡ Ok made) where
+      abbrev known : IntoText f text made.length text'
+      known = into_text f text r text' p made q
 
       -- its text lies in the buffer
-      pub text_inside : n ≤ length text'
+      pub text_inside : made.length ≤ length text'
       text_inside = known.inside
 
       -- and fits the lent one
-      pub text_fits_out : length (take (n - 0) text') ≤ length out
+      pub text_fits_out : length (take (made.length - 0) text') ≤ length out
       text_fits_out = omega (arith, ap length known.front, text_short f known.text known.is, ho)
 
       -- the second has been compared with it
-      pub alike-compared : (s : AlikeAnswer) (out' other' : Bytes) → Compares (take (n - 0) text') g out other s out' other' → SetAlike f g out other s out' other'
+      pub alike-compared : (s : AlikeAnswer) (out' other' : Bytes) → Compares (take (made.length - 0) text') g out other s out' other' → SetAlike f g out other s out' other'
       unfolding and_then
       alike-compared s out' other' c = go (sections_in g) refl
         where
@@ -135,14 +135,14 @@ module _ (f g out other : Bytes) where
           go (accepted ts) e =
               let b : TextOf g (normal_text ts) = record { held = ts; accepts = e; text = refl } in
               let t = text_is g (accepted ts) e in
-              let z : alike_means s ≡ both (equal known.text (normal_text ts)) = c.answer ∙ ap (compared (take (n - 0) text')) t ∙ ap (λ (y : Bytes). both (equal y (normal_text ts))) known.front in
+              let z : alike_means s ≡ both (equal known.text (normal_text ts)) = c.answer ∙ ap (compared (take (made.length - 0) text')) t ∙ ap (λ (y : Bytes). both (equal y (normal_text ts))) known.front in
               alike (both (record { file = a.held; other = ts })) (alike_is ∙ rw (a.accepts, e)) s out' other'
               (subst (λ (y : OfTwo Bool). Tells (both (record { file = a.held; other = ts })) y) (sym z) (texts_tell f g known.text (normal_text ts) a b))
-              (c.new_out ∙ ap (λ (y : Outcome Bytes). text_beside (take (n - 0) text') y out) t ∙ ap (λ (y : Bytes). filled y out) (known.front ∙ a.text))
+              (c.new_out ∙ ap (λ (y : Outcome Bytes). text_beside (take (made.length - 0) text') y out) t ∙ ap (λ (y : Bytes). filled y out) (known.front ∙ a.text))
               (c.other_after ∙ ap (λ (y : Outcome Bytes). filled_with y other) t)
           go (refused u v) e =
               let t = text_is g (refused u v) e in
               alike (second u v) (alike_is ∙ rw (a.accepts, e)) s out' other'
-              (c.answer ∙ ap (compared (take (n - 0) text')) t)
-              (c.new_out ∙ ap (λ (y : Outcome Bytes). text_beside (take (n - 0) text') y out) t)
+              (c.answer ∙ ap (compared (take (made.length - 0) text')) t)
+              (c.new_out ∙ ap (λ (y : Outcome Bytes). text_beside (take (made.length - 0) text') y out) t)
               (c.other_after ∙ ap (λ (y : Outcome Bytes). filled_with y other) t)

@@ -17,7 +17,8 @@ use Rattle.table.specs.Answers.{counts_of, text_after, sections_after, entries_a
 use Rattle.table.proofs.Laws.{refusals_are_numbered}
 use Rattle.normal_text.specs.Sections.{Pair, Section, sections_of, sections_in}
 use Rattle.normal_text.specs.NormalText.{normal_text}
-use Rattle.normal_text.specs.Answers.{Sizes, normal_means, normal_of, sizes_of, sized, out_after, normal_in}
+use Rattle.normal_text.specs.declared.normal.Sizes.{Sizes}
+use Rattle.normal_text.specs.Answers.{normal_means, normal_of, sizes_of, sized, out_after, normal_in}
 use Rattle.normal_text.proofs.Laws.{table_of_sections, normal_text_fits, normal_text_reads_back, normal_text_tells, enough_space_decides}
 use Rattle.claims.specs.Demand3.{AnyCall, Call, Short, short_text, short_sections, short_entries, short_out, length_said, length_by, left_by, Leaves, AcceptedLeaves, SameText, LeftIsAccepted, LeftIsRead, LeftIsItsOwn, TextTells, TextFits, RefusedWith, RefusedFile, ShortBuffers, NotOneIsCall, CallIsNotOne}
 use Rattle.lines.proofs.Outcomes.{not_accepted, same_refusal}

@@ -9,6 +9,7 @@ use mathlib.Core.List.{List}
 use lib.ListN.{length, take, drop, length-take}
 use lib.Dec.{leb}
 use borrow.Author.Tests.{lt-ltb, le-ltb}
+use Rattle.std.specs.Prelude.{Result, Ok, Err}
 use Rattle.lines.specs.Bytes.{Bytes}
 use Rattle.lines.specs.Answers.{Outcome, accepted, refused}
 use Rattle.lines.specs.Buffers.{put}
@@ -27,8 +28,6 @@ use Rattle.lookup.specs.Answers as lookup
 use Rattle.lookup.specs.Laws.{PartOfValue}
 use Rattle.lookup.specs.declared.error.Error as missing
 use Rattle.lookup.specs.declared.search.Which.{Which}
-use Rattle.lookup.specs.declared.search.FindAnswer.{FindAnswer}
-use Rattle.lookup.specs.declared.search.FindAnswer.TheVariants.{Found as FindFound, Refused as FindRefused}
 use Rattle.lookup.proofs.Laws.{parts_are_values, found_are_entries}
 use Rattle.claims.specs.LookUps.{AcceptedRead, lent_after, index_in_table, value_in_table, Located, look_up_in, look_up_means, shown, value_after, Gets}
 use Rattle.claims.specs.Steps.{look_up_lent, Asks}
@@ -45,7 +44,7 @@ module _ (b : Lent) (w : Which) (x k : Bytes) (out : Bytes) where
   asks o e r out' p q = record { answer = p ∙ sym (ap shown e); new_out = q ∙ sym (ap (λ (z : Outcome Located). value_after z out) e) }
 
   -- no such entry
-  pub asks_missing : (r : FindAnswer) (d : missing.Error) → r ≡ FindRefused d → find_means r ≡ index_in b w x k → Asks b w x k out (NotFound d) out
+  pub asks_missing : (r : Result ℕ missing.Error) (d : missing.Error) → r ≡ Err d → find_means r ≡ index_in b w x k → Asks b w x k out (NotFound d) out
   unfolding look_up_lent and_then
   asks_missing r d q e =
       let i : index_in b w x k ≡ lookup.error_means d = sym e ∙ ap find_means q in
@@ -61,7 +60,7 @@ module _ (b : Lent) (w : Which) (x k : Bytes) (out : Bytes) where
           omega (arith, ap length q, length-take p.size (drop p.start b.text), h.0)
       go (refused n p) h = not_accepted n p v (sym h ∙ e)
 
-  module _ (r : FindAnswer) (i : ℕ) (q : r ≡ FindFound i) (e : find_means r ≡ index_in b w x k)
+  module _ (r : Result ℕ missing.Error) (i : ℕ) (q : r ≡ Ok i) (e : find_means r ≡ index_in b w x k)
       (at p : ℕ × ℕ) (v : Bytes) (h : HandsBack b i at p v) (l : length b.text ≤ length out) where
     index : index_in b w x k ≡ accepted i
     index = sym e ∙ ap find_means q

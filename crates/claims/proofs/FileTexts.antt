@@ -18,8 +18,8 @@ use Rattle.table.specs.declared.error.Error.{Error}
 use Rattle.normal_text.specs.Sections.{Pair, Section, sections_of, sections_in}
 use Rattle.normal_text.specs.NormalText.{normal_text}
 use Rattle.normal_text.specs.Answers.{normal_means, normal_of, sized, out_after, normal_in, Normalizes}
-use Rattle.normal_text.specs.declared.normal.NormalAnswer.{NormalAnswer}
-use Rattle.normal_text.specs.declared.normal.NormalAnswer.TheVariants.{Accepted as NormalAccepted, Refused as NormalRefused}
+use Rattle.std.specs.Prelude.{Result, Ok, Err}
+use Rattle.normal_text.specs.declared.normal.Sizes.{Sizes}
 use Rattle.normal_text.proofs.Laws.{normal_text_fits, normal_text_reads_back, enough_space_decides}
 use Rattle.claims.specs.TwoTexts.{text_of_file, filled_with}
 use Rattle.claims.specs.Steps.{length_of, measured, text_in, NormalInto}
@@ -81,7 +81,7 @@ pub text_in_lem : (n : ℕ) (f : Bytes) → 65535 ≤ n → text_in n f ≡ text
 unfolding text_in
 text_in_lem n f h = rw (le-ltb n 65535 h)
 
-module _ (f text : Bytes) (sections entries : List ℕ) (out : Bytes) (r : NormalAnswer) (text' : Bytes) (sections' entries' : List ℕ) (out' : Bytes)
+module _ (f text : Bytes) (sections entries : List ℕ) (out : Bytes) (r : Result Sizes Error) (text' : Bytes) (sections' entries' : List ℕ) (out' : Bytes)
     (p : Normalizes f text sections entries out r text' sections' entries' out') where
   -- the table of the call
   abbrev outcome : Outcome Table
@@ -128,24 +128,24 @@ pub record IntoText (f out : Bytes) (n : ℕ) (out' : Bytes) : Type 0 where
   pub inside : n ≤ length out'
   pub front : take (n - 0) out' ≡ text
 
-module _ (f out : Bytes) (r : NormalAnswer) (out' : Bytes) (p : NormalInto f out r out') where
-  pub into_text : (n t m k : ℕ) → r ≡ NormalAccepted n t m k → IntoText f out n out'
+module _ (f out : Bytes) (r : Result Sizes Error) (out' : Bytes) (p : NormalInto f out r out') where
+  pub into_text : (made : Sizes) → r ≡ Ok made → IntoText f out made.length out'
   unfolding text_in
-  into_text n t m k q =
+  into_text made q =
       by_cases (ltb (length out) 65535)
-      (λ e. let s : measured (text_in (length out) f) ≡ refused 1 0 = rw e in not_accepted 1 0 n (sym s ∙ said))
+      (λ e. let s : measured (text_in (length out) f) ≡ refused 1 0 = rw e in not_accepted 1 0 made.length (sym s ∙ said))
       (λ e. go (ltb-false (length out) 65535 e) (text_of_file f) refl)
     where
-      said : measured (text_in (length out) f) ≡ accepted n
-      said = sym p.answer ∙ ap (λ (z : NormalAnswer). length_of (normal_means z)) q
+      said : measured (text_in (length out) f) ≡ accepted made.length
+      said = sym p.answer ∙ ap (λ (z : Result Sizes Error). length_of (normal_means z)) q
 
-      go : 65535 ≤ length out → (o : Outcome Bytes) → text_of_file f ≡ o → IntoText f out n out'
-      go h (refused i j) e = not_accepted i j n (sym (ap measured (text_in_lem (length out) f h ∙ e)) ∙ said)
+      go : 65535 ≤ length out → (o : Outcome Bytes) → text_of_file f ≡ o → IntoText f out made.length out'
+      go h (refused i j) e = not_accepted i j made.length (sym (ap measured (text_in_lem (length out) f h ∙ e)) ∙ said)
       go h (accepted x) e =
           let o = text_in_lem (length out) f h ∙ e in
-          let z : accepted (length x) ≡ accepted n = sym (ap measured o) ∙ said in
-          let l : n ≡ length x = cc (sym z) in
-          let d : n - 0 ≡ length x = omega (arith, l) in
+          let z : accepted (length x) ≡ accepted made.length = sym (ap measured o) ∙ said in
+          let l : made.length ≡ length x = cc (sym z) in
+          let d : made.length - 0 ≡ length x = omega (arith, l) in
           let a : out' ≡ filled x out = p.new_out ∙ ap (λ (y : Outcome Bytes). filled_with y out) o in
           let s = text_short f x e in
           record {
@@ -159,8 +159,8 @@ module _ (f out : Bytes) (r : NormalAnswer) (out' : Bytes) (p : NormalInto f out
           }
 
   -- refused: that is the outcome, and the buffer is as it was
-  pub into_refused : (e : Error) → r ≡ NormalRefused e → (text_in (length out) f ≡ error_means e) × (out' ≡ out)
+  pub into_refused : (e : Error) → r ≡ Err e → (text_in (length out) f ≡ error_means e) × (out' ≡ out)
   into_refused e q =
-      let s : measured (text_in (length out) f) ≡ error_means e = sym p.answer ∙ ap (λ (z : NormalAnswer). length_of (normal_means z)) q in
+      let s : measured (text_in (length out) f) ≡ error_means e = sym p.answer ∙ ap (λ (z : Result Sizes Error). length_of (normal_means z)) q in
       let o = same_refusal measured (λ x. (length x, refl)) (λ m j. refl) (text_in (length out) f) (number_of e) (place_of e) s in
       (o, p.new_out ∙ ap (λ (z : Outcome Bytes). filled_with z out) o)

@@ -12,8 +12,8 @@ use Rattle.table.specs.Answers.{number_of, place_of, error_means}
 use Rattle.table.specs.declared.error.Error.{Error}
 use Rattle.table.specs.declared.error.Error.TheVariants.{File}
 use Rattle.normal_text.specs.Answers.{normal_means}
-use Rattle.normal_text.specs.declared.normal.NormalAnswer.{NormalAnswer}
-use Rattle.normal_text.specs.declared.normal.NormalAnswer.TheVariants.{Accepted as NormalAccepted, Refused as NormalRefused}
+use Rattle.std.specs.Prelude.{Result, Ok, Err}
+use Rattle.normal_text.specs.declared.normal.Sizes.{Sizes}
 use Rattle.claims.specs.TwoTexts.{text_of_file, twice_in, twice_means, same_lengths, filled_with, Twice}
 use Rattle.claims.specs.Steps.{length_of, measured, text_in, NormalInto}
 use Rattle.claims.specs.declared.two_texts.TwiceAnswer.{TwiceAnswer}
@@ -43,39 +43,39 @@ module _ (f out again : Bytes) where
   twice_short h =
       twice (refused 1 0) (rw (or_right (ltb (length out) 65535) (ltb (length again) 65535) (lt-ltb (length again) 65535 h))) (TwiceRefused (File ShortBuffer)) out again refl refl refl
 
-  module _ (h : 65535 ≤ length again) (r : NormalAnswer) (out' : Bytes) (p : NormalInto f out r out') where
+  module _ (h : 65535 ≤ length again) (r : Result Sizes Error) (out' : Bytes) (p : NormalInto f out r out') where
     -- it is not: the outcome is that of the first call
     twice_is : twice_in (length out) (length again) f ≡ text_in (length out) f
     unfolding twice_in text_in
     twice_is = rw (le-ltb (length again) 65535 h, or-false (ltb (length out) 65535))
 
     -- the file is refused
-    pub twice_refused : (e : Error) → r ≡ NormalRefused e → Twice f out again (TwiceRefused e) out' again
+    pub twice_refused : (e : Error) → r ≡ Err e → Twice f out again (TwiceRefused e) out' again
     twice_refused e q =
         let i = into_refused f out r out' p e q in
         twice (error_means e) (twice_is ∙ i.0) (TwiceRefused e) out' again refl i.1 refl
 
-    module _ (n t m k : ℕ) (q : r ≡ NormalAccepted n t m k) (s : NormalAnswer) (again' : Bytes) (v : NormalInto (take (n - 0) out') again s again') where
+    module _ (made : Sizes) (q : r ≡ Ok made) (s : Result Sizes Error) (again' : Bytes) (v : NormalInto (take (made.length - 0) out') again s again') where
       -- the file is accepted
-      abbrev known : IntoText f out n out'
-      known = into_text f out r out' p n t m k q
+      abbrev known : IntoText f out made.length out'
+      known = into_text f out r out' p made q
 
       -- the text is its own normal text
-      own : text_in (length again) (take (n - 0) out') ≡ accepted known.text
-      own = text_in_lem (length again) (take (n - 0) out') h ∙ ap text_of_file known.front ∙ text_again f known.text known.is
+      own : text_in (length again) (take (made.length - 0) out') ≡ accepted known.text
+      own = text_in_lem (length again) (take (made.length - 0) out') h ∙ ap text_of_file known.front ∙ text_again f known.text known.is
 
       -- so it is never refused
-      pub twice_never : {X : Type 0} (e : Error) → s ≡ NormalRefused e → X
+      pub twice_never : {X : Type 0} (e : Error) → s ≡ Err e → X
       twice_never e z =
-          not_accepted (number_of e) (place_of e) known.text (sym (into_refused (take (n - 0) out') again s again' v e z).0 ∙ own)
+          not_accepted (number_of e) (place_of e) known.text (sym (into_refused (take (made.length - 0) out') again s again' v e z).0 ∙ own)
 
       -- and has the same length and bytes
-      pub twice_held : (i j a b : ℕ) → s ≡ NormalAccepted i j a b → Twice f out again (TwiceAccepted n i) out' again'
-      twice_held i j a b z =
+      pub twice_held : (second : Sizes) → s ≡ Ok second → Twice f out again (TwiceAccepted made.length second.length) out' again'
+      twice_held second z =
           let x = known.text in
-          let y : accepted i ≡ accepted (length x) = sym (ap (λ (w : NormalAnswer). length_of (normal_means w)) z) ∙ v.answer ∙ ap measured own in
-          let l : i ≡ length x = cc y in
-          twice (accepted x) (twice_is ∙ text_in_lem (length out) f known.long ∙ known.is) (TwiceAccepted n i) out' again'
-          (same_lengths_lem n i (length x) known.said l)
+          let y : accepted second.length ≡ accepted (length x) = sym (ap (λ (w : Result Sizes Error). length_of (normal_means w)) z) ∙ v.answer ∙ ap measured own in
+          let l : second.length ≡ length x = cc y in
+          twice (accepted x) (twice_is ∙ text_in_lem (length out) f known.long ∙ known.is) (TwiceAccepted made.length second.length) out' again'
+          (same_lengths_lem made.length second.length (length x) known.said l)
           known.after
           (v.new_out ∙ ap (λ (w : Outcome Bytes). filled_with w again) own)

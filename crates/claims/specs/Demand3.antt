@@ -11,8 +11,8 @@ use Rattle.table.specs.declared.error.Error.{Error}
 use Rattle.table.specs.declared.state.Counts.{Counts}
 use Rattle.normal_text.specs.Sections.{Pair, Section, sections_of, sections_in}
 use Rattle.normal_text.specs.NormalText.{normal_text}
-use Rattle.normal_text.specs.Answers.{Sizes, normal_means, Normalizes}
-use Rattle.normal_text.specs.declared.normal.NormalAnswer.{NormalAnswer}
+use Rattle.normal_text.specs.Answers.{normal_means, Normalizes}
+use Rattle.normal_text.specs.declared.normal.Sizes.{Sizes}
 use Rattle.claims.specs.ReadCalls.{ReadCall}
 
 -- ---- calls
@@ -23,7 +23,7 @@ pub record AnyCall (f : Bytes) : Type 0 where
   pub sections : List ℕ
   pub entries : List ℕ
   pub out : Bytes
-  pub answer : NormalAnswer
+  pub answer : Result Sizes Error
   pub new_text : Bytes
   pub new_sections : List ℕ
   pub new_entries : List ℕ

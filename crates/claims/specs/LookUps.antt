@@ -16,8 +16,8 @@ use Rattle.lookup.specs.Answers as lookup
 use Rattle.lookup.specs.Laws.{NoneOf, Stands}
 use Rattle.lookup.specs.declared.search.Which.{Which}
 use Rattle.lookup.specs.declared.search.Which.TheVariants.{First, Last}
-use Rattle.lookup.specs.declared.search.FindAnswer.{FindAnswer}
-use Rattle.lookup.specs.declared.values.ValueAnswer.{ValueAnswer}
+use Rattle.lookup.specs.declared.error.Error as missing
+use Rattle.lookup.specs.declared.values.Part as declared
 use Rattle.claims.specs.declared.look_up.LookUpAnswer.{LookUpAnswer}
 use Rattle.claims.specs.declared.look_up.LookUpAnswer.TheVariants.{Found, NotRead, NotFound}
 
@@ -59,7 +59,7 @@ TableThere = (f : Bytes) → AcceptedRead f → (t : Table) × (verdict f ≡ ac
 -- `find` answers what the file's table says
 abbrev pub FindAfterRead : Type 0
 FindAfterRead = (f : Bytes) (t : Table) → verdict f ≡ accepted t → (c : AcceptedRead f)
-    → (w : Which) (x k : Bytes) (r : FindAnswer) → find_means r ≡ index_in (lent_after c) w x k
+    → (w : Which) (x k : Bytes) (r : Result ℕ missing.Error) → find_means r ≡ index_in (lent_after c) w x k
     → find_means r ≡ index_in_table t w x k
 
 -- `value` hands back what the file's table says, no bytes where there is no such entry
@@ -76,7 +76,7 @@ PartFor text (refused n q) o = o ≡ refused n q
 -- `value_check` tells where the value of the file's entry stands, or 40; so never 41
 abbrev pub CheckAfterRead : Type 0
 CheckAfterRead = (f : Bytes) (t : Table) → verdict f ≡ accepted t → (c : AcceptedRead f)
-    → (i : ℕ) (r : ValueAnswer) → value_means r ≡ part_in (lent_after c) i → PartFor c.text (value_in_table t i) (value_means r)
+    → (i : ℕ) (r : Result declared.Part missing.Error) → value_means r ≡ part_in (lent_after c) i → PartFor c.text (value_in_table t i) (value_means r)
 
 -- no entry before it, or behind it, is one too
 abbrev pub Ends : {ns : List Bytes} {x k : Bytes} {es : List Entry} {i : ℕ} → Which → Stands ns x k es i → Type 0
@@ -93,14 +93,14 @@ pub record IsAsked (t : Table) (w : Which) (x k : Bytes) (i : ℕ) (v : Bytes) :
 -- so it is for every index that `find` gives and every value that is then asked for
 abbrev pub EntryAfterRead : Type 0
 EntryAfterRead = (f : Bytes) (t : Table) → verdict f ≡ accepted t → (c : AcceptedRead f)
-    → (w : Which) (x k : Bytes) (r : FindAnswer) → find_means r ≡ index_in (lent_after c) w x k
+    → (w : Which) (x k : Bytes) (r : Result ℕ missing.Error) → find_means r ≡ index_in (lent_after c) w x k
     → (i : ℕ) → find_means r ≡ accepted i
     → (at p : ℕ × ℕ) (v : Bytes) → HandsBack (lent_after c) i at p v → IsAsked t w x k i v
 
 -- and `find` gives 40 exactly where no entry of the table is one
 abbrev pub MissingAfterRead : Type 0
 MissingAfterRead = (f : Bytes) (t : Table) → verdict f ≡ accepted t → (c : AcceptedRead f)
-    → (w : Which) (x k : Bytes) (r : FindAnswer) → find_means r ≡ index_in (lent_after c) w x k
+    → (w : Which) (x k : Bytes) (r : Result ℕ missing.Error) → find_means r ≡ index_in (lent_after c) w x k
     → (find_means r ≡ refused 40 0 → NoneOf (names t.events) x k (entries t.events))
     × (NoneOf (names t.events) x k (entries t.events) → find_means r ≡ refused 40 0)
 

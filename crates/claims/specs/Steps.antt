@@ -1,11 +1,12 @@
 -- What the functions inside the crate promise.
-use Rattle.std.specs.Prelude.{◌≡◌, ℕ, Bool, cond, ltb, length}
+use Rattle.std.specs.Prelude.{◌≡◌, ℕ, Bool, cond, ltb, length, Result}
 use Rattle.lines.specs.Bytes.{Bytes, equal}
 use Rattle.lines.specs.Answers.{Outcome, accepted, refused}
 use Rattle.lines.specs.Buffers.{filled}
 use Rattle.table.specs.Tables.{and_then}
-use Rattle.normal_text.specs.Answers.{Sizes, normal_means}
-use Rattle.normal_text.specs.declared.normal.NormalAnswer.{NormalAnswer}
+use Rattle.normal_text.specs.Answers.{normal_means}
+use Rattle.table.specs.declared.error.Error as reader
+use Rattle.normal_text.specs.declared.normal.Sizes.{Sizes}
 use Rattle.lookup.specs.Decoding.{Lent}
 use Rattle.lookup.specs.Questions.{index_in, value_in}
 use Rattle.lookup.specs.declared.search.Which.{Which}
@@ -44,7 +45,7 @@ unfolding text_of_file
 text_in out_size f = cond (ltb out_size 65535) (refused 1 0) (text_of_file f)
 
 -- the promise of `normal_into`
-pub record NormalInto (f out : Bytes) (r : NormalAnswer) (out' : Bytes) : Type 0 where
+pub record NormalInto (f out : Bytes) (r : Result Sizes reader.Error) (out' : Bytes) : Type 0 where
   pub answer : length_of (normal_means r) ≡ measured (text_in (length out) f)
   pub new_out : out' ≡ filled_with (text_in (length out) f) out
 

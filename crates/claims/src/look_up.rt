@@ -1,10 +1,10 @@
 // An entry of a file: the file is read, the entry looked up, its value asked for.
 ghost use Rattle.std.specs.Prelude.{◌≤◌, length};
-ghost use Rattle.lookup.specs.Decoding.{lent};
+ghost use Rattle.lookup.specs.Decoding.{lent_of};
 ghost use Rattle.claims.specs.LookUps.{Gets};
 ghost use Rattle.claims.specs.Steps.{Asks};
 
-use lookup::{FindAnswer, Which};
+use lookup::{Lent, Which};
 
 #[derive(Clone, Copy)]
 pub enum LookUpAnswer {
@@ -16,38 +16,25 @@ pub enum LookUpAnswer {
 
 // Looks an entry up in a table, and puts its value at the front of `out`.
 fn find_then_value(
+    lent: Lent,
     section: &[u8],
     key: &[u8],
     which: Which,
-    text: &[u8],
-    sections: &[usize],
-    section_count: usize,
-    entries: &[usize],
-    entry_count: usize,
     out: &mut [u8],
 ) -> LookUpAnswer
-    requires { length text.now ≤ length out.old }
-    ensures { Asks (lent text.now sections.now section_count entries.now entry_count) which section.now key.now out.old result out.new }
+    requires { length lent.text.now ≤ length out.old }
+    ensures { Asks (lent_of lent.entry) which section.now key.now out.old result out.new }
 {
-    match lookup::find(
-        section,
-        key,
-        which,
-        text,
-        sections,
-        section_count,
-        entries,
-        entry_count,
-    ) {
-        FindAnswer::Found(index) => {
-            let value = lookup::value(index, text, sections, section_count, entries, entry_count);
+    match lent.find(section, key, which) {
+        Ok(index) => {
+            let value = lent.value(index);
             lines::copy_into(value, out, 0);
             LookUpAnswer::Found {
                 index,
                 length: value.len(),
             }
         }
-        FindAnswer::Refused(e) => LookUpAnswer::NotFound(e),
+        Err(e) => LookUpAnswer::NotFound(e),
     }
 }
 
@@ -70,17 +57,16 @@ pub fn read_then_find(
     let mut sections = [0usize; 128];
     let mut entries = [0usize; 2560];
     match table::read(file, &mut text, &mut sections, &mut entries) {
-        Ok(counts) => find_then_value(
-            section,
-            key,
-            which,
-            &text,
-            &sections,
-            counts.sections,
-            &entries,
-            counts.entries,
-            out,
-        ),
+        Ok(counts) => {
+            let lent = Lent {
+                text: &text,
+                sections: &sections,
+                section_count: counts.sections,
+                entries: &entries,
+                entry_count: counts.entries,
+            };
+            find_then_value(lent, section, key, which, out)
+        }
         Err(e) => LookUpAnswer::NotRead(e),
     }
 }

@@ -3,7 +3,7 @@ ghost use Rattle.std.specs.Prelude.{◌≤◌, length};
 ghost use Rattle.claims.specs.TwoTexts.{Twice, SetAlike};
 ghost use Rattle.claims.specs.Steps.{NormalInto, Compares};
 
-use normal_text::NormalAnswer;
+use normal_text::Sizes;
 
 #[derive(Clone, Copy)]
 pub enum TwiceAnswer {
@@ -26,7 +26,7 @@ pub enum AlikeAnswer {
 const OUT_BYTES: usize = 65535;
 
 // The normal text of a file, by way of buffers of its own for the reader.
-fn normal_into(file: &[u8], out: &mut [u8]) -> NormalAnswer
+fn normal_into(file: &[u8], out: &mut [u8]) -> Result<Sizes, table::Error>
     ensures { NormalInto file.now out.old result out.new }
 {
     let mut text = [0u8; 65535];
@@ -43,22 +43,15 @@ pub fn normal_twice(file: &[u8], out: &mut [u8], again: &mut [u8]) -> TwiceAnswe
         return TwiceAnswer::Refused(table::Error::File(lines::Error::ShortBuffer));
     }
     match normal_into(file, out) {
-        NormalAnswer::Accepted {
-            length,
-            text: _,
-            sections: _,
-            entries: _,
-        } => match normal_into(&out[0..length], again) {
-            NormalAnswer::Accepted {
-                length: n,
-                text: _,
-                sections: _,
-                entries: _,
-            } => TwiceAnswer::Accepted { length, again: n },
+        Ok(sizes) => match normal_into(&out[0..sizes.length], again) {
+            Ok(second) => TwiceAnswer::Accepted {
+                length: sizes.length,
+                again: second.length,
+            },
             // It never is.
-            NormalAnswer::Refused(e) => TwiceAnswer::Refused(e),
+            Err(e) => TwiceAnswer::Refused(e),
         },
-        NormalAnswer::Refused(e) => TwiceAnswer::Refused(e),
+        Err(e) => TwiceAnswer::Refused(e),
     }
 }
 
@@ -68,16 +61,11 @@ fn compare_other(text: &[u8], other: &[u8], out: &mut [u8], other_out: &mut [u8]
     ensures { Compares text.now other.now out.old other_out.old result out.new other_out.new }
 {
     match normal_into(other, other_out) {
-        NormalAnswer::Accepted {
-            length,
-            text: _,
-            sections: _,
-            entries: _,
-        } => {
+        Ok(sizes) => {
             lines::copy_into(text, out, 0);
-            AlikeAnswer::Accepted(lines::same(text, &other_out[0..length]))
+            AlikeAnswer::Accepted(lines::same(text, &other_out[0..sizes.length]))
         }
-        NormalAnswer::Refused(e) => AlikeAnswer::OtherRefused(e),
+        Err(e) => AlikeAnswer::OtherRefused(e),
     }
 }
 
@@ -94,12 +82,7 @@ pub fn set_alike(file: &[u8], other: &[u8], out: &mut [u8], other_out: &mut [u8]
     }
     let mut text = [0u8; OUT_BYTES];
     match normal_into(file, &mut text) {
-        NormalAnswer::Accepted {
-            length,
-            text: _,
-            sections: _,
-            entries: _,
-        } => compare_other(&text[0..length], other, out, other_out),
-        NormalAnswer::Refused(e) => AlikeAnswer::Refused(e),
+        Ok(sizes) => compare_other(&text[0..sizes.length], other, out, other_out),
+        Err(e) => AlikeAnswer::Refused(e),
     }
 }

@@ -2,8 +2,8 @@
 // `refused N at P`.
 #![tactic(auto)]
 
-use listing::{print, print_refused, show};
-use lookup::{FindAnswer, Which};
+use listing::{print, show};
+use lookup::{Lent, Which};
 use std::env::{Env, FillError};
 use std::io;
 
@@ -32,61 +32,32 @@ fn argument(rt: &impl Env, i: usize, buffer: &mut [u8]) -> Option<usize> {
     }
 }
 
+// Reads the table, and prints the value or the refusal.
 fn answer(rt: &impl Print, section: &[u8], key: &[u8], file: &[u8]) -> io::Result<()> {
     let mut text = [0u8; 65535];
     let mut sections = [0usize; 128];
     let mut entries = [0usize; 2560];
-    answer_from(
-        rt,
-        section,
-        key,
-        file,
-        &mut text,
-        &mut sections,
-        &mut entries,
-    )
-}
-
-// Reads the table into the buffers, and prints the value or the refusal.
-fn answer_from(
-    rt: &impl Print,
-    section: &[u8],
-    key: &[u8],
-    file: &[u8],
-    text: &mut [u8],
-    sections: &mut [usize],
-    entries: &mut [usize],
-) -> io::Result<()> {
-    match table::read(file, text, sections, entries) {
-        Ok(counts) => print_value(
-            rt,
-            section,
-            key,
-            text,
-            sections,
-            counts.sections,
-            entries,
-            counts.entries,
-        ),
-        Err(e) => print_refused(rt, e.number(), e.place()),
+    match table::read(file, &mut text, &mut sections, &mut entries) {
+        Ok(counts) => {
+            let lent = Lent {
+                text: &text,
+                sections: &sections,
+                section_count: counts.sections,
+                entries: &entries,
+                entry_count: counts.entries,
+            };
+            print_value(rt, lent, section, key)
+        }
+        Err(e) => println!(rt; "{e}"),
     }
 }
 
-fn print_value(
-    rt: &impl Print,
-    section: &[u8],
-    key: &[u8],
-    text: &[u8],
-    sections: &[usize],
-    m: usize,
-    entries: &[usize],
-    k: usize,
-) -> io::Result<()> {
-    match lookup::find(section, key, Which::Last, text, sections, m, entries, k) {
-        FindAnswer::Found(index) => {
-            print(rt, lookup::value(index, text, sections, m, entries, k))?;
-            print(rt, b"\n")
+fn print_value(rt: &impl Print, lent: Lent, section: &[u8], key: &[u8]) -> io::Result<()> {
+    match lent.find(section, key, Which::Last) {
+        Ok(index) => {
+            print(rt, lent.value(index))?;
+            println!(rt)
         }
-        FindAnswer::Refused(e) => print_refused(rt, e.number(), e.place()),
+        Err(e) => println!(rt; "{e}"),
     }
 }

@@ -18,8 +18,7 @@ use Rattle.table.specs.declared.error.Error.{Error}
 use Rattle.table.specs.declared.state.Counts.{Counts}
 use Rattle.table.proofs.ReadCalls.{table_kept}
 use Rattle.normal_text.specs.Answers.{sized, normal_means, out_after, normal_in, Normalizes}
-use Rattle.normal_text.specs.declared.normal.NormalAnswer.{NormalAnswer}
-use Rattle.normal_text.specs.declared.normal.NormalAnswer.TheVariants.{Accepted, Refused}
+use Rattle.normal_text.specs.declared.normal.Sizes.{Sizes}
 use Rattle.havtsulen.specs.Reports.{with_report, Reports}
 use Rattle.havtsulen.specs.Answers.{nothing_told, number_told, counts_told, sizes_told, ReportsWellFormedLength, ReportsCheckFile, ReportsRead, ReportsNormalText}
 use Rattle.havtsulen.specs.Steps.{Replies}
@@ -115,7 +114,7 @@ module _ (f text : Bytes) (sections entries : List ℕ) (out : Bytes) (report : 
         new_out = ap (λ (o : Outcome Table). out_after o out) (sym e);
       }
 
-  module _ (h : 4 ≤ length report) (a : NormalAnswer) (text' : Bytes) (sections' entries' : List ℕ) (out' : Bytes)
+  module _ (h : 4 ≤ length report) (a : Result Sizes Error) (text' : Bytes) (sections' entries' : List ℕ) (out' : Bytes)
       (made : Normalizes f text sections entries out a text' sections' entries' out') (r : ℕ) (report' : List ℕ) where
     normal_same : normal_outcome ≡ with_report report normal_outcome
     normal_same = sym (with_long report normal_outcome h)
@@ -133,12 +132,12 @@ module _ (f text : Bytes) (sections entries : List ℕ) (out : Bytes) (report : 
           new_out = made.new_out ∙ ap (λ (o : Outcome Table). out_after o out) normal_same;
         }
 
-    pub normal_accepted : (l n m k : ℕ) → a ≡ Accepted l n m k → Replies 0 l n m k report r report'
+    pub normal_accepted : (s : Sizes) → a ≡ Ok s → Replies 0 s.length s.table.text s.table.sections s.table.entries report r report'
         → ReportsNormalText f text sections entries out report r text' sections' entries' out' report'
-    normal_accepted l n m k known p =
-        normal_leaves (accepts sizes_told _ report h r report' _ (ap normal_means (sym known) ∙ normal_means_lem) l n m k refl p)
+    normal_accepted s known p =
+        normal_leaves (accepts sizes_told _ report h r report' _ (ap normal_means (sym known) ∙ normal_means_lem) s.length s.table.text s.table.sections s.table.entries refl p)
 
-    pub normal_refused : (x : Error) → a ≡ Refused x → (number place : ℕ) → number ≡ number_of x → place ≡ place_of x
+    pub normal_refused : (x : Error) → a ≡ Err x → (number place : ℕ) → number ≡ number_of x → place ≡ place_of x
         → Replies number place 0 0 0 report r report' → ReportsNormalText f text sections entries out report r text' sections' entries' out' report'
     normal_refused x known number place i j p =
         normal_leaves (refuses sizes_told _ report h r report' _ _ (ap normal_means (sym known) ∙ normal_means_lem) (table_number x) number place i j p)

@@ -6,6 +6,7 @@ use mathlib.Core.Bool.{false}
 use mathlib.Core.List.{List}
 use lib.ListN.{length}
 use lib.Dec.{eqb}
+use Rattle.std.specs.Prelude.{Result, Ok, Err}
 use Rattle.lines.specs.Bytes.{Bytes}
 use Rattle.lines.specs.Answers.{Outcome, accepted, refused}
 use Rattle.lines.specs.Buffers.{filled}
@@ -17,10 +18,7 @@ use Rattle.lookup.specs.Laws.{PartOfValue}
 use Rattle.lookup.specs.declared.error.Error.{Error}
 use Rattle.lookup.specs.declared.search.Which.{Which}
 use Rattle.lookup.specs.declared.search.Which.TheVariants.{Last}
-use Rattle.lookup.specs.declared.search.FindAnswer.{FindAnswer}
-use Rattle.lookup.specs.declared.search.FindAnswer.TheVariants.{Found, Refused as FindRefused}
-use Rattle.lookup.specs.declared.values.ValueAnswer.{ValueAnswer}
-use Rattle.lookup.specs.declared.values.ValueAnswer.TheVariants.{Accepted, Refused as ValueRefused}
+use Rattle.lookup.specs.declared.values.Part as declared
 use Rattle.lookup.proofs.Laws.{parts_are_values}
 use Rattle.havtsulen.specs.Reports.{with_report}
 use Rattle.havtsulen.specs.Answers.{number_told, part_told, which_of, NamesValue, ReportsFind, ReportsValue, ReportsValueCheck}
@@ -44,15 +42,15 @@ module _ (b : Lent) (which : ℕ) (section key : Bytes) (report : List ℕ) wher
   pub find_short : length report < 4 → ReportsFind b which section key report 1 report
   find_short h = short number_told _ report h (with_short report found h)
 
-  module _ (h : 4 ≤ length report) (w : Which) (asked : w ≡ which_of which) (a : FindAnswer) (e : find_means a ≡ index_in b w section key)
+  module _ (h : 4 ≤ length report) (w : Which) (asked : w ≡ which_of which) (a : Result ℕ Error) (e : find_means a ≡ index_in b w section key)
       (r : ℕ) (report' : List ℕ) where
     find_means_lem : find_means a ≡ with_report report found
     find_means_lem = e ∙ ap (λ (v : Which). index_in b v section key) asked ∙ sym (with_long report found h)
 
-    pub find_accepted : (i : ℕ) → a ≡ Found i → Replies 0 i 0 0 0 report r report' → ReportsFind b which section key report r report'
+    pub find_accepted : (i : ℕ) → a ≡ Ok i → Replies 0 i 0 0 0 report r report' → ReportsFind b which section key report r report'
     find_accepted i known p = accepts number_told _ report h r report' i (ap find_means (sym known) ∙ find_means_lem) i 0 0 0 refl p
 
-    pub find_refused : (x : Error) → a ≡ FindRefused x → (number place : ℕ) → number ≡ number_of x → place ≡ place_of x
+    pub find_refused : (x : Error) → a ≡ Err x → (number place : ℕ) → number ≡ number_of x → place ≡ place_of x
         → Replies number place 0 0 0 report r report' → ReportsFind b which section key report r report'
     find_refused x known number place i j p =
         refuses number_told _ report h r report' _ _ (ap find_means (sym known) ∙ find_means_lem) (lookup_number x) number place i j p
@@ -86,7 +84,7 @@ module _ (b : Lent) (i : ℕ) (report : List ℕ) where
   pub value_short : length report < 4 → ReportsValue b i report 1 report
   value_short h = record { reports = short part_told _ report h (with_short report holding h); names = refused_names 1 refl report }
 
-  module _ (h : 4 ≤ length report) (a : ValueAnswer) (e : value_means a ≡ part_in b i) (r : ℕ) (report' : List ℕ) where
+  module _ (h : 4 ≤ length report) (a : Result declared.Part Error) (e : value_means a ≡ part_in b i) (r : ℕ) (report' : List ℕ) where
     check_means_lem : value_means a ≡ with_report report (part_in b i)
     check_means_lem = e ∙ sym (with_long report (part_in b i) h)
 
@@ -95,29 +93,29 @@ module _ (b : Lent) (i : ℕ) (report : List ℕ) where
     value_means_lem = ap (λ (o : Outcome Part). accepted (part_or o)) e ∙ sym (with_long report holding h)
 
     -- the part that an answer tells
-    answer_part : (v : ValueAnswer) → a ≡ v → part_or (value_means v) ≡ part_or (part_in b i)
-    answer_part v known = ap (λ (x : ValueAnswer). part_or (value_means x)) (sym known) ∙ ap part_or e
+    answer_part : (v : Result declared.Part Error) → a ≡ v → part_or (value_means v) ≡ part_or (part_in b i)
+    answer_part v known = ap (λ (x : Result declared.Part Error). part_or (value_means x)) (sym known) ∙ ap part_or e
 
-    value_told : (v : ValueAnswer) → a ≡ v
+    value_told : (v : Result declared.Part Error) → a ≡ v
         → Replies 0 (part_or (value_means v)).start (part_or (value_means v)).size 0 0 report r report' → ReportsValue b i report r report'
     value_told v known p =
         record {
-          reports = accepts part_told _ report h r report' _ (ap (λ (x : ValueAnswer). accepted (part_or (value_means x))) (sym known) ∙ value_means_lem) _ _ 0 0 refl p;
+          reports = accepts part_told _ report h r report' _ (ap (λ (x : Result declared.Part Error). accepted (part_or (value_means x))) (sym known) ∙ value_means_lem) _ _ 0 0 refl p;
           names = λ z. names-value (part_or (value_means v)) (answer_part v known) r report' p;
         }
 
-    module _ (start size : ℕ) (known : a ≡ Accepted start size) (p : Replies 0 start size 0 0 report r report') where
+    module _ (v : declared.Part) (known : a ≡ Ok v) (p : Replies 0 v.start v.length 0 0 report r report') where
       pub check_accepted : ReportsValueCheck b i report r report'
       check_accepted =
           record {
-            reports = accepts part_told _ report h r report' _ (ap value_means (sym known) ∙ check_means_lem) start size 0 0 refl p;
-            names = λ z. names-value _ (answer_part (Accepted start size) known) r report' p;
+            reports = accepts part_told _ report h r report' _ (ap value_means (sym known) ∙ check_means_lem) v.start v.length 0 0 refl p;
+            names = λ z. names-value _ (answer_part (Ok v) known) r report' p;
           }
 
       pub value_accepted : ReportsValue b i report r report'
-      value_accepted = value_told (Accepted start size) known p
+      value_accepted = value_told (Ok v) known p
 
-    module _ (x : Error) (known : a ≡ ValueRefused x) where
+    module _ (x : Error) (known : a ≡ Err x) where
       pub check_refused : (number place : ℕ) → number ≡ number_of x → place ≡ place_of x
           → Replies number place 0 0 0 report r report' → ReportsValueCheck b i report r report'
       check_refused number place k j p =
@@ -127,4 +125,4 @@ module _ (b : Lent) (i : ℕ) (report : List ℕ) where
           }
 
       pub value_refused : Replies 0 0 0 0 0 report r report' → ReportsValue b i report r report'
-      value_refused p = value_told (ValueRefused x) known p
+      value_refused p = value_told (Err x) known p

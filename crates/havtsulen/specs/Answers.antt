@@ -13,7 +13,8 @@ use Rattle.lookup.specs.Questions.{Part, index_in, value_in, part_in}
 use Rattle.lookup.specs.Answers.{bytes_or, part_or}
 use Rattle.lookup.specs.declared.search.Which.{Which}
 use Rattle.lookup.specs.declared.search.Which.TheVariants.{First, Last}
-use Rattle.normal_text.specs.Answers.{Sizes, sized, out_after, normal_in}
+use Rattle.normal_text.specs.declared.normal.Sizes.{Sizes}
+use Rattle.normal_text.specs.Answers.{sized, out_after, normal_in}
 use Rattle.items.specs.declared.splitter.Counts.{Counts as ItemCounts}
 use Rattle.items.specs.Split.{split_in}
 use Rattle.items.specs.Write.{write_in}

@@ -3,7 +3,7 @@ ghost use Rattle.havtsulen.specs.Answers.{ReportsWellFormedLength, ReportsCheckF
 
 use crate::report::{REPORT_NUMBERS, SHORT_REPORT, reply};
 use lines::Check;
-use normal_text::NormalAnswer;
+use normal_text::Sizes;
 
 // The length of the longest well-formed start of a text.
 pub fn havtsulen_well_formed_length(text: &[u8], report: &mut [usize]) -> usize
@@ -62,12 +62,7 @@ pub fn havtsulen_normal_text(
         return SHORT_REPORT;
     }
     match normal_text::normal_text(file, text, sections, entries, out) {
-        NormalAnswer::Accepted {
-            length,
-            text: t,
-            sections: s,
-            entries: k,
-        } => reply(0, length, t, s, k, report),
-        NormalAnswer::Refused(e) => reply(e.number(), e.place(), 0, 0, 0, report),
+        Ok(Sizes { length, table: t }) => reply(0, length, t.text, t.sections, t.entries, report),
+        Err(e) => reply(e.number(), e.place(), 0, 0, 0, report),
     }
 }

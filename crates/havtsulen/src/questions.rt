@@ -4,7 +4,7 @@ ghost use Rattle.lookup.specs.Decoding.{lent};
 ghost use Rattle.havtsulen.specs.Answers.{which_of, ReportsFind, ReportsValueCheck, ReportsValue};
 
 use crate::report::{REPORT_NUMBERS, SHORT_REPORT, reply};
-use lookup::{FindAnswer, ValueAnswer, Which};
+use lookup::{Lent, Which};
 
 // Which entry a number asks for: 0 the first, any other the last.
 fn which_of(which: usize) -> Which
@@ -33,18 +33,16 @@ pub fn havtsulen_find(
     if report.len() < REPORT_NUMBERS {
         return SHORT_REPORT;
     }
-    match lookup::find(
-        section,
-        key,
-        which_of(which),
+    let lent = Lent {
         text,
         sections,
         section_count,
         entries,
         entry_count,
-    ) {
-        FindAnswer::Found(index) => reply(0, index, 0, 0, 0, report),
-        FindAnswer::Refused(e) => reply(e.number(), e.place(), 0, 0, 0, report),
+    };
+    match lent.find(section, key, which_of(which)) {
+        Ok(index) => reply(0, index, 0, 0, 0, report),
+        Err(e) => reply(e.number(), e.place(), 0, 0, 0, report),
     }
 }
 
@@ -63,9 +61,16 @@ pub fn havtsulen_value_check(
     if report.len() < REPORT_NUMBERS {
         return SHORT_REPORT;
     }
-    match lookup::value_check(index, text, sections, section_count, entries, entry_count) {
-        ValueAnswer::Accepted { start, length } => reply(0, start, length, 0, 0, report),
-        ValueAnswer::Refused(e) => reply(e.number(), e.place(), 0, 0, 0, report),
+    let lent = Lent {
+        text,
+        sections,
+        section_count,
+        entries,
+        entry_count,
+    };
+    match lent.value_check(index) {
+        Ok(part) => reply(0, part.start, part.length, 0, 0, report),
+        Err(refusal) => reply(refusal.number(), refusal.place(), 0, 0, 0, report),
     }
 }
 
@@ -84,8 +89,15 @@ pub fn havtsulen_value(
     if report.len() < REPORT_NUMBERS {
         return SHORT_REPORT;
     }
-    match lookup::value_check(index, text, sections, section_count, entries, entry_count) {
-        ValueAnswer::Accepted { start, length } => reply(0, start, length, 0, 0, report),
-        ValueAnswer::Refused(_) => reply(0, 0, 0, 0, 0, report),
+    let lent = Lent {
+        text,
+        sections,
+        section_count,
+        entries,
+        entry_count,
+    };
+    match lent.value_check(index) {
+        Ok(part) => reply(0, part.start, part.length, 0, 0, report),
+        Err(_) => reply(0, 0, 0, 0, 0, report),
     }
 }

@@ -5,6 +5,9 @@ use native.Mathlib.Nat.{add-zero}
 use native.Mathlib.Omega.{arith}
 use mathlib.Core.Bool.{Bool, true, false, ◌&&◌}
 use mathlib.Core.Option.{Option, none, some}
+use Rattle.std.specs.Prelude as prelude
+use Rattle.std.specs.Prelude.{None, Some, Result, Ok, Err}
+use Rattle.std.specs.Option.{ok_or}
 use mathlib.Core.List.{List, [], ◌∷◌}
 use lib.ListN.{length, take, drop, get_or}
 use lib.Dec.{leb}
@@ -14,17 +17,15 @@ use Rattle.lines.specs.Answers.{Outcome, accepted, refused}
 use Rattle.lines.proofs.Bools.{impossible, by_cases}
 use Rattle.table.specs.Tables.{Entry}
 use Rattle.lookup.specs.Decoding.{part, names_in, entries_in, Lent, Decoded, table_in}
-use Rattle.lookup.specs.Questions.{value_at, Part, value_part, on_table, or_missing, index_in, value_in, part_in}
-use Rattle.lookup.specs.Answers.{error_means, find_means, value_means, bytes_or, part_or, HandsBack}
+use Rattle.lookup.specs.Questions.{indexes_from, asked, value_at, Part, value_part, on_table, or_missing, index_in, value_in, part_in}
+use Rattle.lookup.specs.Answers.{error_means, find_means, part_means, value_means, bytes_or, part_or, HandsBack}
 use Rattle.lookup.specs.Laws.{PartOfValue, PartIsValue}
-use Rattle.lookup.specs.Steps.{there, Finds}
+use Rattle.lookup.specs.Steps.{there, matches, IsAsked}
 use Rattle.lookup.specs.declared.error.Error.{Error}
 use Rattle.lookup.specs.declared.error.Error.TheVariants.{NoEntry, FaultyRecord}
 use Rattle.lookup.specs.declared.search.Which.{Which}
-use Rattle.lookup.specs.declared.search.FindAnswer.TheVariants.{Found, Refused as FindRefused}
-use Rattle.lookup.specs.declared.values.ValueAnswer.{ValueAnswer}
-use Rattle.lookup.specs.declared.values.ValueAnswer.TheVariants.{Accepted, Refused as ValueRefused}
-use Rattle.lookup.proofs.Searching.{lent-part}
+use Rattle.lookup.specs.declared.values.Part as declared
+use Rattle.lookup.proofs.Searching.{known, finds, lent-part}
 use Rattle.lookup.proofs.Decoded.{which_there, there-together, entries_count, table_halves, entry_of_lem, good_of}
 
 -- nothing is there
@@ -40,28 +41,23 @@ module _ (b : Lent) where
   unfolding table_in
   halves = there-together (names_in b.text b.section_count b.section_numbers) (entries_in b.text b.section_count b.entry_count b.entry_numbers)
 
-  pub sections_faulty : there (names_in b.text b.section_count b.section_numbers) ≡ false → false ≡ there (table_in b)
-  sections_faulty e = sym (halves ∙ rw e)
-
-  pub entries_decide : there (names_in b.text b.section_count b.section_numbers) ≡ true
-      → (r : Bool) → r ≡ there (entries_in b.text b.section_count b.entry_count b.entry_numbers) → r ≡ there (table_in b)
-  entries_decide e r q = q ∙ sym (halves ∙ rw e)
-
 -- ---- look-up
 
 module _ (b : Lent) (w : Which) (x k : Bytes) where
-  pub find_faulty : there (table_in b) ≡ false → find_means (FindRefused FaultyRecord) ≡ index_in b w x k
+  pub find_faulty : there (table_in b) ≡ false → error_means FaultyRecord ≡ index_in b w x k
   unfolding index_in on_table
   find_faulty e = rw (not_there (table_in b) e)
 
-  module _ (e : there (table_in b) ≡ true) (i : ℕ) (f : Finds b w x k i) where
-    pub find_missing : b.entry_count ≤ i → find_means (FindRefused NoEntry) ≡ index_in b w x k
-    unfolding index_in on_table or_missing
-    find_missing h = let t = which_there (table_in b) e in rw (t.1, (f t.0 t.1).1 h)
+  -- by what was found in the table
+  answer : (t : Decoded) → table_in b ≡ some t → (r : prelude.Option ℕ) → asked w (indexes_from 0 t.names x k t.entries) ≡ known r
+      → find_means (ok_or r NoEntry) ≡ index_in b w x k
+  unfolding index_in on_table or_missing
+  answer t e None q = rw (e, q)
+  answer t e (Some i) q = rw (e, q)
 
-    pub find_found : i < b.entry_count → find_means (Found i) ≡ index_in b w x k
-    unfolding index_in on_table or_missing
-    find_found h = let t = which_there (table_in b) e in rw (t.1, (f t.0 t.1).0 h)
+  pub find_found : there (table_in b) ≡ true → (r : prelude.Option ℕ) → IsAsked w b.entry_count (matches b x k) r
+      → find_means (ok_or r NoEntry) ≡ index_in b w x k
+  find_found e r f = let t = which_there (table_in b) e in answer t.0 t.1 r (finds b x k t.0 t.1 w r f)
 
 -- ---- an entry's value
 
@@ -82,14 +78,14 @@ module _ (b : Lent) (i : ℕ) where
   unfolding part_in on_table or_missing
   part-there t e h = rw (e, lt-ltb i b.entry_count h)
 
-  pub value_faulty : there (table_in b) ≡ false → value_means (ValueRefused FaultyRecord) ≡ part_in b i
+  pub value_faulty : there (table_in b) ≡ false → error_means FaultyRecord ≡ part_in b i
   value_faulty e = sym (part_faulty (not_there (table_in b) e))
 
   module _ (e : there (table_in b) ≡ true) where
-    pub value_missing : b.entry_count ≤ i → value_means (ValueRefused NoEntry) ≡ part_in b i
+    pub value_missing : b.entry_count ≤ i → error_means NoEntry ≡ part_in b i
     value_missing h = let w = which_there (table_in b) e in sym (part_missing w.0 w.1 h)
 
-    pub value_there : i < b.entry_count → value_means (Accepted (get_or b.entry_numbers (5 * i + 3) 0) (get_or b.entry_numbers (5 * i + 4) 0)) ≡ part_in b i
+    pub value_there : i < b.entry_count → accepted (value_part i b.entry_numbers) ≡ part_in b i
     value_there h = let w = which_there (table_in b) e in sym (part-there w.0 w.1 h)
 
     -- the record of an entry is there
@@ -130,28 +126,28 @@ part_is_value b i = go (table_in b) refl
 
 -- ---- the part that is handed back
 
-module _ (b : Lent) (i : ℕ) (r : ValueAnswer) where
-  module _ (a n : ℕ) (q : r ≡ Accepted a n) (e : value_means r ≡ part_in b i) where
-    told : part_in b i ≡ accepted (record { start = a; size = n })
+module _ (b : Lent) (i : ℕ) (r : Result declared.Part Error) where
+  module _ (p : declared.Part) (q : r ≡ Ok p) (e : value_means r ≡ part_in b i) where
+    told : part_in b i ≡ accepted (part_means p)
     told = sym e ∙ ap value_means q
 
-    agrees : PartOfValue b i (accepted (record { start = a; size = n }))
+    agrees : PartOfValue b i (accepted (part_means p))
     agrees = subst (PartOfValue b i) told (part_is_value b i)
 
-    pub part-inside : a + n ≤ length b.text
+    pub part-inside : p.start + p.length ≤ length b.text
     part-inside = agrees.0
 
     -- a slice of the text from its start on
-    pub hands_part : (text result : ℕ × ℕ) → result.0 ≡ text.0 → result.1 ≡ text.1 + a
-        → HandsBack b i text result (take (a + n - a) (drop a b.text))
+    pub hands_part : (text result : ℕ × ℕ) → result.0 ≡ text.0 → result.1 ≡ text.1 + p.start
+        → HandsBack b i text result (take (p.start + p.length - p.start) (drop p.start b.text))
     hands_part text result s t = record {
-      bytes = lent-part b.text a n ∙ sym (ap bytes_or agrees.1);
+      bytes = lent-part b.text p.start p.length ∙ sym (ap bytes_or agrees.1);
       block = s;
-      offset = t ∙ ap (λ (z : ℕ). text.1 + z) (sym (ap (λ (p : Outcome Part). (part_or p).start) told));
+      offset = t ∙ ap (λ (z : ℕ). text.1 + z) (sym (ap (λ (o : Outcome Part). (part_or o).start) told));
     }
 
   -- or the empty one at the start
-  pub hands_nothing : (k : Error) → r ≡ ValueRefused k → value_means r ≡ part_in b i → (text result : ℕ × ℕ) → result.0 ≡ text.0 → result.1 ≡ text.1
+  pub hands_nothing : (k : Error) → r ≡ Err k → value_means r ≡ part_in b i → (text result : ℕ × ℕ) → result.0 ≡ text.0 → result.1 ≡ text.1
       → HandsBack b i text result []
   hands_nothing k q e text result s t =
       let o : part_in b i ≡ error_means k = sym e ∙ ap value_means q in

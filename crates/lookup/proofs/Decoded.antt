@@ -92,7 +92,7 @@ pub record Good (text : Bytes) (m : ℕ) (ns : List ℕ) (at : ℕ) : Type 0 whe
   pub key : get_or ns (at + 1) 0 + get_or ns (at + 2) 0 ≤ length text
   pub value : get_or ns (at + 3) 0 + get_or ns (at + 4) 0 ≤ length text
 
-good_parts : (text : Bytes) (m : ℕ) (ns : List ℕ) (at : ℕ) → good_entry text m ns at ≡ true → Good text m ns at
+pub good_parts : (text : Bytes) (m : ℕ) (ns : List ℕ) (at : ℕ) → good_entry text m ns at ≡ true → Good text m ns at
 good_parts text m ns at e =
     let i : Bool = ltb (get_or ns at 0) m in
     let k : Bool = inside text (get_or ns (at + 1) 0) (get_or ns (at + 2) 0) in

@@ -2,6 +2,8 @@
 pub mod Walking
 -- what the records of a table say
 pub mod Decoded
+-- iterators over indexes
+pub mod Ranges
 -- the first and the last entry that is asked for
 pub mod Searching
 -- the calls

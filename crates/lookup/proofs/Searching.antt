@@ -1,19 +1,22 @@
--- The first and the last entry of a section and a key: what the two loops keep, and what the index says.
+-- The first and the last entry of a section and a key: what the code tests, and what the index says.
 use mathlib.Core.Path.{◌≡◌, refl, sym, ap, ◌∙◌}
 use Prim.Native.Nat.{ℕ, zero, suc, ◌+◌, ◌-◌, ◌*◌, ◌≤◌, ◌<◌}
 use native.Mathlib.Nat.{add-zero, zero-add}
 use native.Mathlib.Omega.{arith}
-use mathlib.Core.Bool.{Bool, true, false}
-use mathlib.Core.Option.{some}
+use mathlib.Core.Bool.{Bool, true, false, ◌&&◌}
+use mathlib.Core.Option.{Option, none, some}
+use Rattle.std.specs.Prelude as prelude
+use Rattle.std.specs.Prelude.{None, Some, MatchOption}
 use mathlib.Core.List.{List, [], ◌∷◌, ◌++◌}
 use lib.ListN.{length, take, drop, get_or}
 use lib.Seq.{drop-length}
 use Rattle.lines.specs.Bytes.{Bytes, equal}
-use Rattle.lines.proofs.Bools.{by_cases, and_true, and_false}
+use Rattle.lines.proofs.Bools.{by_cases}
 use Rattle.table.specs.Tables.{Entry}
 use Rattle.lookup.specs.Decoding.{part, Lent, Decoded, table_in}
-use Rattle.lookup.specs.Questions.{is_entry, indexes_from, first_of, last_of}
-use Rattle.lookup.specs.Steps.{there, entry_of, matches_at, EntryInside, Finds}
+use Rattle.lookup.specs.Questions.{is_entry, indexes_from, first_of, last_of, asked}
+use Rattle.lookup.specs.Steps.{there, entry_of, matches_at, matches, IsFirst, IsLast, IsAsked, EntryInside}
+use Rattle.lookup.specs.declared.search.Which.{Which}
 use Rattle.lookup.specs.declared.search.Which.TheVariants.{First, Last}
 use Rattle.lookup.proofs.Decoded.{which_there, entries_count, table_halves, entry_of_lem, good_of, name_of}
 
@@ -38,8 +41,8 @@ module _ (b : Lent) (t : Decoded) (e : table_in b ≡ some t) (i : ℕ) (h : i <
   matches_entry x k = rw (name_of b t e i h).name
 
 -- so it is wherever the buffers hold a table
-pub inside-there : (b : Lent) → there (table_in b) ≡ true → (i : ℕ) → i < b.entry_count → EntryInside b.text b.section_numbers b.entry_numbers (5 * i)
-inside-there b e i h =
+pub inside_there : (b : Lent) → there (table_in b) ≡ true → (i : ℕ) → i < b.entry_count → EntryInside b.text b.section_numbers b.entry_numbers (5 * i)
+inside_there b e i h =
     let w = which_there (table_in b) e in
     record_inside b w.0 w.1 i h
 
@@ -53,18 +56,11 @@ pub part_same : (x text : Bytes) (a n : ℕ) (r : Bool) → r ≡ equal x (take 
 part_same x text a n r e = e ∙ ap (equal x) (lent-part text a n)
 
 -- the code compares the key first
-module _ (x k text : Bytes) (sections entries : List ℕ) (at : ℕ) where
-  abbrev name_same : Bool
-  name_same = equal x (part text (get_or sections (2 * get_or entries at 0) 0) (get_or sections (2 * get_or entries at 0 + 1) 0))
-
-  abbrev key_same : Bool
-  key_same = equal k (part text (get_or entries (at + 1) 0) (get_or entries (at + 2) 0))
-
-  pub key_differs : key_same ≡ false → false ≡ matches_at x k text sections entries at
-  key_differs e = rw e (sym (and_false name_same))
-
-  pub key_same_lem : key_same ≡ true → (r : Bool) → r ≡ name_same → r ≡ matches_at x k text sections entries at
-  key_same_lem e r q = q ∙ rw e (sym (and_true name_same))
+pub key_first : (name key r : Bool) → r ≡ (key && name) → r ≡ (name && key)
+key_first true true r e = e
+key_first true false r e = e
+key_first false true r e = e
+key_first false false r e = e
 
 -- ---- lists of indexes
 
@@ -87,16 +83,12 @@ last_behind [] j = refl
 last_behind (i ∷ []) j = refl
 last_behind (i ∷ h ∷ is) j = last_behind (h ∷ is) j
 
--- ---- the loops
+-- ---- the index that is asked for
 
--- the entries from i on decide which is the first
-abbrev pub FirstAhead : Lent → (x k : Bytes) (i : ℕ) → Type 0
-FirstAhead b x k i = (i ≤ b.entry_count) × ((t : Decoded) → table_in b ≡ some t
-    → indexes_from 0 t.names x k t.entries ≡ indexes_from i t.names x k (drop i t.entries))
-
--- none of the entries from i on is one
-abbrev pub NoneBehind : Lent → (x k : Bytes) (i : ℕ) → Type 0
-NoneBehind b x k i = (i ≤ b.entry_count) × ((t : Decoded) → table_in b ≡ some t → indexes_from i t.names x k (drop i t.entries) ≡ [])
+-- what an `Option` of the code is in the definitions
+abbrev pub known : {A : Type 0} → prelude.Option A → Option A
+known None = none
+known (Some x) = some x
 
 module _ (b : Lent) (x k : Bytes) where
   -- the entries from the count on: none
@@ -110,62 +102,49 @@ module _ (b : Lent) (x k : Bytes) where
     here = (entry_of_lem b t e i h).here
 
     -- the entry i is one
-    yes : matches_at x k b.text b.section_numbers b.entry_numbers (5 * i) ≡ true
+    yes : matches b x k i ≡ true
         → indexes_from i t.names x k (drop i t.entries) ≡ i ∷ indexes_from (suc i) t.names x k (drop (suc i) t.entries)
-    unfolding indexes_from
+    unfolding indexes_from matches
     yes q = rw (here, sym (matches_entry b t e i h x k) ∙ q)
 
     -- or not
-    no : matches_at x k b.text b.section_numbers b.entry_numbers (5 * i) ≡ false
+    no : matches b x k i ≡ false
         → indexes_from i t.names x k (drop i t.entries) ≡ indexes_from (suc i) t.names x k (drop (suc i) t.entries)
-    unfolding indexes_from
+    unfolding indexes_from matches
     no q = rw (here, sym (matches_entry b t e i h x k) ∙ q)
 
-  -- the first
-  pub first_start : FirstAhead b x k 0
-  first_start = (omega arith, λ t e. refl)
+  module _ (t : Decoded) (e : table_in b ≡ some t) where
+    -- where none of the entries before i is one, those from i on decide
+    ahead : (i : ℕ) → i ≤ b.entry_count → ((j : ℕ) → j < i → matches b x k j ≡ false)
+        → indexes_from 0 t.names x k t.entries ≡ indexes_from i t.names x k (drop i t.entries)
+    ahead zero h f = refl
+    ahead (suc i) h f = ahead i (omega arith) (λ j l. f j (omega arith)) ∙ no i (omega arith) t e (f i (omega arith))
 
-  module _ (i : ℕ) (l : FirstAhead b x k i) where
-    pub first_found : i < b.entry_count → matches_at x k b.text b.section_numbers b.entry_numbers (5 * i) ≡ true → Finds b First x k i
-    unfolding first_of
-    first_found h q t e = (λ m. rw (l.1 t e, yes i h t e q), λ m. absurd (omega arith))
+    -- where none of the n entries from i on is one, there is no index behind
+    behind : (n i : ℕ) → i + n ≡ b.entry_count → ((j : ℕ) → i ≤ j → j < b.entry_count → matches b x k j ≡ false)
+        → indexes_from i t.names x k (drop i t.entries) ≡ []
+    unfolding indexes_from
+    behind zero i h f = let c : i ≡ b.entry_count = omega arith in rw (c, past_all t e)
+    behind (suc n) i h f =
+        no i (omega arith) t e (f i (omega arith) (omega arith))
+        ∙ behind n (suc i) (omega arith) (λ j l m. f j (omega arith) m)
 
-    pub first_more : i < b.entry_count → matches_at x k b.text b.section_numbers b.entry_numbers (5 * i) ≡ false → FirstAhead b x k (i + 1)
-    first_more h q =
-        let n : i + 1 ≡ suc i = omega arith in
-        (omega arith, λ t e. rw n (l.1 t e ∙ no i h t e q))
+    -- so the index that was found is the one that is asked for
+    pub finds : (w : Which) (r : prelude.Option ℕ) → IsAsked w b.entry_count (matches b x k) r → asked w (indexes_from 0 t.names x k t.entries) ≡ known r
+    unfolding first_of last_of indexes_from
+    finds First None h = rw (ahead b.entry_count (omega arith) h, past_all t e)
+    finds First (Some i) h = rw (ahead i (omega arith) h.2, yes i h.0 t e h.1)
+    finds Last None h = rw (ahead b.entry_count (omega arith) h, past_all t e)
+    finds Last (Some i) h =
+        let p : indexes_from i t.names x k (drop i t.entries) ≡ i ∷ [] =
+            yes i h.0 t e h.1 ∙ ap (λ (l : List ℕ). i ∷ l) (behind (b.entry_count - suc i) (suc i) (omega (arith, h.0)) (λ j l m. h.2 j (omega arith) m)) in
+        let s : indexes_from 0 t.names x k t.entries ≡ indexes_from 0 t.names x k (take i t.entries) ++ i ∷ [] =
+            indexes_split t.entries 0 i t.names x k ∙ ap (λ (l : List ℕ). indexes_from 0 t.names x k (take i t.entries) ++ l) (rw zero-add p) in
+        rw (s, last_behind (indexes_from 0 t.names x k (take i t.entries)) i)
 
-    pub first_over : b.entry_count ≤ i → Finds b First x k i
-    unfolding first_of indexes_from
-    first_over h t e =
-        let n : i ≡ b.entry_count = omega arith in
-        let p : indexes_from 0 t.names x k t.entries ≡ [] = l.1 t e ∙ rw (n, past_all t e) in
-        (λ m. absurd (omega arith), λ m. rw p)
-
-  -- the last
-  pub last_start : NoneBehind b x k b.entry_count
-  unfolding indexes_from
-  last_start = (omega arith, λ t e. rw (past_all t e))
-
-  module _ (i : ℕ) (l : NoneBehind b x k i) where
-    pub last_found : 0 < i → matches_at x k b.text b.section_numbers b.entry_numbers (5 * (i - 1)) ≡ true → Finds b Last x k (i - 1)
-    unfolding last_of
-    last_found h q t e =
-        let j : ℕ = i - 1 in
-        let n : suc j ≡ i = omega arith in
-        let p : indexes_from j t.names x k (drop j t.entries) ≡ j ∷ [] =
-        yes j (omega arith) t e q ∙ rw n (ap (λ (r : List ℕ). j ∷ r) (l.1 t e)) in
-        let s : indexes_from 0 t.names x k t.entries ≡ indexes_from 0 t.names x k (take j t.entries) ++ j ∷ [] =
-        indexes_split t.entries 0 j t.names x k ∙ ap (λ (r : List ℕ). indexes_from 0 t.names x k (take j t.entries) ++ r) (rw zero-add p) in
-        (λ m. rw (s, last_behind (indexes_from 0 t.names x k (take j t.entries)) j), λ m. absurd (omega arith))
-
-    pub last_more : 0 < i → matches_at x k b.text b.section_numbers b.entry_numbers (5 * (i - 1)) ≡ false → NoneBehind b x k (i - 1)
-    last_more h q =
-        let n : suc (i - 1) ≡ i = omega arith in
-        (omega arith, λ t e. no (i - 1) (omega arith) t e q ∙ rw n (l.1 t e))
-
-    pub last_over : i ≡ 0 → Finds b Last x k b.entry_count
-    unfolding last_of
-    last_over n t e =
-        let p : indexes_from 0 t.names x k t.entries ≡ [] = rw n at (l.1 t e) in
-        (λ m. absurd (omega arith), λ m. rw p)
+-- `find` over the indexes from 0 on
+pub first_of_range : (n : ℕ) (test : ℕ → Bool) (r : prelude.Option ℕ)
+    → MatchOption r ((j : ℕ) → 0 ≤ j → j < n → test j ≡ false) (λ i. (0 ≤ i) × (i < n) × (test i ≡ true) × ((j : ℕ) → 0 ≤ j → j < i → test j ≡ false))
+    → IsFirst n test r
+first_of_range n test None h = λ j l. h j (omega arith) l
+first_of_range n test (Some i) h = (h.1, h.2, λ j l. h.3 j (omega arith) l)

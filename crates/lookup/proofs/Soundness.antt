@@ -1,18 +1,18 @@
 -- There is a table exactly where no record among the counts is faulty and no count passes its buffer.
-use mathlib.Core.Path.{◌≡◌, refl, ◌∙◌}
+use mathlib.Core.Path.{◌≡◌, refl, sym, ◌∙◌}
 use Prim.Native.Nat.{ℕ, zero, suc, ◌+◌, ◌*◌, ◌≤◌, ◌<◌}
 use native.Mathlib.Omega.{arith}
-use mathlib.Core.Bool.{Bool, true}
+use mathlib.Core.Bool.{Bool, true, true≢false}
 use mathlib.Core.Option.{some}
 use mathlib.Core.List.{List}
 use lib.ListN.{length, drop, get_or}
-use borrow.Author.Tests.{le-leb, lt-ltb}
-use Rattle.lines.proofs.Bools.{both}
+use borrow.Author.Tests.{le-leb, lt-ltb, leb-true}
+use Rattle.lines.proofs.Bools.{both, by_cases}
 use Rattle.lookup.specs.Decoding.{inside, names_in, entries_in, Lent, Decoded, table_in}
-use Rattle.lookup.specs.Steps.{there, good_entry}
+use Rattle.lookup.specs.Steps.{there, good_entry, good_section, good_record, SectionsGood, EntriesGood}
 use Rattle.lookup.specs.Laws.{Sound, TableMeans, TableCounts}
 use Rattle.lookup.proofs.Walking.{ByRecords, sections_by_records, entries_by_records}
-use Rattle.lookup.proofs.Decoded.{which_there, table_halves, name_facts, names_count, entries_count, entry_of_lem, good_of}
+use Rattle.lookup.proofs.Decoded.{which_there, table_halves, name_facts, names_count, entries_count, entry_of_lem, good_parts, good_of}
 use Rattle.lookup.proofs.Calls.{halves}
 
 -- ---- a table that is there
@@ -83,6 +83,36 @@ table_means b = (
   λ t e. table_sound b t e,
   λ s. which_there (table_in b) (halves b ∙ both _ _ (names-there b s) (entries_there b s)),
 )
+
+-- what the code tests: the records of both kinds
+module _ (b : Lent) where
+  pub good_sound : SectionsGood b → EntriesGood b → Sound b
+  unfolding good_section good_record
+  good_sound s e = record {
+    sections_there = s.0;
+    entries_there = e.0;
+    names = λ j h. leb-true _ _ (s.1 j h);
+    sections = λ i h. (good_parts b.text b.section_count b.entry_numbers (5 * i) (e.1 i h)).section;
+    keys = λ i h. (good_parts b.text b.section_count b.entry_numbers (5 * i) (e.1 i h)).key;
+    values = λ i h. (good_parts b.text b.section_count b.entry_numbers (5 * i) (e.1 i h)).value;
+  }
+
+  pub sound_sections : Sound b → SectionsGood b
+  unfolding good_section
+  sound_sections s = (s.sections_there, λ j h. le-leb _ _ (s.names j h))
+
+  pub sound_entries : Sound b → EntriesGood b
+  unfolding good_record
+  sound_entries s = (s.entries_there, λ i h. rw (lt-ltb _ _ (s.sections i h), le-leb _ _ (s.keys i h), le-leb _ _ (s.values i h)))
+
+  -- so the tests say whether there is a table
+  pub holds : (r : Bool) → (r ≡ true → Sound b) → (Sound b → r ≡ true) → r ≡ there (table_in b)
+  holds r sound full =
+      by_cases r
+      (λ q. q ∙ sym (halves b ∙ both _ _ (names-there b (sound q)) (entries_there b (sound q))))
+      (λ q. by_cases (there (table_in b))
+          (λ t. let w = which_there (table_in b) t in absurd (true≢false (sym (full (table_sound b w.0 w.1)) ∙ q)))
+          (λ t. q ∙ sym t))
 
 pub table_counts : TableCounts
 table_counts b t e =

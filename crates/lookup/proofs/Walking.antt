@@ -1,5 +1,4 @@
--- Records of w numbers, one after another: a test over them goes record by record. What the loops of `sections_good` and
--- `entries_good` keep is stated once, for any width.
+-- Records of w numbers, one after another: a test over them goes record by record. It is stated once, for any width.
 use mathlib.Core.Path.{◌≡◌, refl, sym, ap, ◌∙◌}
 use Prim.Native.Nat.{ℕ, suc, ◌+◌, ◌-◌, ◌≤◌, ◌<◌}
 use native.Mathlib.Omega.{arith}
@@ -22,42 +21,6 @@ pub record ByRecords (ns : List ℕ) (w : ℕ) (f : ℕ → List ℕ → Bool) (
   pub nothing : (l : List ℕ) → f 0 l ≡ true
   pub short : (m : ℕ) (l : List ℕ) → length l < w → f (suc m) l ≡ false
   pub more : (m at : ℕ) → at + w ≤ length ns → f (suc m) (drop at ns) ≡ (good at && f m (drop (at + w) ns))
-
--- the records before an index were good, and so many are left
-abbrev pub Walked : (ns : List ℕ) (f : ℕ → List ℕ → Bool) (count at left : ℕ) → Type 0
-Walked ns f count at left = (at ≤ length ns) × (f count ns ≡ f left (drop at ns))
-
-module _ (ns : List ℕ) (w : ℕ) (f : ℕ → List ℕ → Bool) (good : ℕ → Bool) (r : ByRecords ns w f good) (count : ℕ) where
-  pub walked_start : Walked ns f count 0 count
-  walked_start = (omega arith, refl)
-
-  module _ (at left : ℕ) (h : Walked ns f count at left) where
-    pub walked_end : left ≡ 0 → true ≡ f count ns
-    walked_end e = sym (h.1 ∙ ap (λ (n : ℕ). f n (drop at ns)) e ∙ r.nothing (drop at ns))
-
-    one : 0 < left → f left (drop at ns) ≡ f (suc (left - 1)) (drop at ns)
-    one l =
-        let e : left ≡ suc (left - 1) = omega arith in
-        ap (λ (n : ℕ). f n (drop at ns)) e
-
-    pub walked_short : 0 < left → length ns - at < w → false ≡ f count ns
-    walked_short l s = sym (h.1 ∙ one l ∙ r.short (left - 1) (drop at ns) (omega (arith, length-drop at ns)))
-
-    module _ (l : 0 < left) (m : at + w ≤ length ns) where
-      pub walked_bad : good at ≡ false → false ≡ f count ns
-      walked_bad e = sym (h.1 ∙ one l ∙ r.more (left - 1) at m ∙ rw e)
-
-      pub walked_good : good at ≡ true → Walked ns f count (at + w) (left - 1)
-      walked_good e = (m, h.1 ∙ one l ∙ r.more (left - 1) at m ∙ rw e)
-
--- ---- a part inside the text
-
--- a length that fits behind a start
-pub fits-behind : (n a l : ℕ) → a ≤ n → leb l (n - a) ≡ leb (a + l) n
-fits-behind n a l h =
-    by_cases (leb l (n - a))
-    (λ e. rw e (sym (le-leb (a + l) n (omega (arith, leb-true l (n - a) e)))))
-    (λ e. rw e (sym (lt-leb (a + l) n (omega (arith, leb-false l (n - a) e)))))
 
 -- ---- records of sections and of entries
 
@@ -82,19 +45,6 @@ pub five_there : (ns : List ℕ) (at : ℕ) → at + 5 ≤ length ns
     → drop at ns ≡ get_or ns at 0 ∷ get_or ns (at + 1) 0 ∷ get_or ns (at + 2) 0 ∷ get_or ns (at + 3) 0 ∷ get_or ns (at + 4) 0 ∷ drop (at + 5) ns
 five_there ns at h =
     rw (two_there ns at (omega arith), next ns at 2 (omega arith), next ns at 3 (omega arith), next ns at 4 (omega arith))
-
--- an entry's record, as the code tests it
-module _ (text : Bytes) (m : ℕ) (ns : List ℕ) (at : ℕ) where
-  pub entry_bad_section : m ≤ get_or ns at 0 → false ≡ good_entry text m ns at
-  entry_bad_section h = rw (le-ltb (get_or ns at 0) m h)
-
-  module _ (h : get_or ns at 0 < m) where
-    pub entry_bad_key : inside text (get_or ns (at + 1) 0) (get_or ns (at + 2) 0) ≡ false → false ≡ good_entry text m ns at
-    entry_bad_key e = rw (lt-ltb (get_or ns at 0) m h, e)
-
-    pub entry_by_value : inside text (get_or ns (at + 1) 0) (get_or ns (at + 2) 0) ≡ true
-        → (r : Bool) → r ≡ inside text (get_or ns (at + 3) 0) (get_or ns (at + 4) 0) → r ≡ good_entry text m ns at
-    entry_by_value e r q = q ∙ rw (lt-ltb (get_or ns at 0) m h, e)
 
 pub sections_by_records : (text : Bytes) (ns : List ℕ)
     → ByRecords ns 2 (λ m l. there (names_in text m l)) (λ at. inside text (get_or ns at 0) (get_or ns (at + 1) 0))

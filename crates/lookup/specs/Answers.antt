@@ -1,15 +1,12 @@
 -- What the answers of the calls mean in the rules, and what they promise.
-use Rattle.std.specs.Prelude.{◌≡◌, ℕ, ◌+◌, []}
+use Rattle.std.specs.Prelude.{◌≡◌, ℕ, ◌+◌, [], Result, Ok, Err}
 use Rattle.lines.specs.Bytes.{Bytes}
 use Rattle.lines.specs.Answers.{Outcome, accepted, refused}
 use Rattle.lookup.specs.Decoding.{Lent}
 use Rattle.lookup.specs.Questions.{Part, value_in, part_in}
 use Rattle.lookup.specs.declared.error.Error.{Error}
 use Rattle.lookup.specs.declared.error.Error.TheVariants.{NoEntry, FaultyRecord}
-use Rattle.lookup.specs.declared.search.FindAnswer.{FindAnswer}
-use Rattle.lookup.specs.declared.search.FindAnswer.TheVariants.{Found, Refused as FindRefused}
-use Rattle.lookup.specs.declared.values.ValueAnswer.{ValueAnswer}
-use Rattle.lookup.specs.declared.values.ValueAnswer.TheVariants.{Accepted, Refused as ValueRefused}
+use Rattle.lookup.specs.declared.values.Part as declared
 
 -- ---- refusals
 
@@ -30,14 +27,18 @@ error_means e = refused (number_of e) (place_of e)
 -- ---- answers
 
 -- what the answer of `find` means: an index
-abbrev pub find_means : FindAnswer → Outcome ℕ
-find_means (Found i) = accepted i
-find_means (FindRefused e) = error_means e
+abbrev pub find_means : Result ℕ Error → Outcome ℕ
+find_means (Ok i) = accepted i
+find_means (Err e) = error_means e
+
+-- a part of the text
+abbrev pub part_means : declared.Part → Part
+part_means p = record { start = p.start; size = p.length }
 
 -- what the answer of `value_check` means: a part of the text
-abbrev pub value_means : ValueAnswer → Outcome Part
-value_means (Accepted a n) = accepted (record { start = a; size = n })
-value_means (ValueRefused e) = error_means e
+abbrev pub value_means : Result declared.Part Error → Outcome Part
+value_means (Ok p) = accepted (part_means p)
+value_means (Err e) = error_means e
 
 -- ---- the part that `value` hands back
 

@@ -3,6 +3,7 @@ use Rattle.std.specs.Prelude.{ℕ, zero, suc, ◌+◌, Bool, true, false, ◌&&�
 use Rattle.std.proofs.Math.Option.{Option, none, some}
 use Rattle.lines.specs.Bytes.{Bytes}
 use Rattle.table.specs.Tables.{Entry, entry_in}
+use Rattle.lookup.specs.declared.lent.Lent as declared
 
 -- ---- parts of the text
 
@@ -58,6 +59,10 @@ pub record Lent : Type 0 where
 
 abbrev pub lent : Bytes → List ℕ → ℕ → List ℕ → ℕ → Lent
 lent text sections m entries k = record { text = text; section_numbers = sections; section_count = m; entry_numbers = entries; entry_count = k }
+
+-- the same of the code's struct
+abbrev pub lent_of : declared.Lent → Lent
+lent_of l = lent l.text.now l.sections.now l.section_count l.entries.now l.entry_count
 
 -- a table: the sections' names and the entries, each in the order of their indexes
 pub record Decoded : Type 0 where

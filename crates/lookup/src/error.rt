@@ -2,7 +2,9 @@
 ghost use Rattle.std.specs.Prelude.{◌≡◌};
 ghost use Rattle.lookup.specs.Answers.{number_of, place_of};
 
-#[derive(Clone, Copy)]
+use std::fmt;
+
+#[derive(Clone, Copy, Debug, PartialEq, Eq)]
 pub enum Error {
     NoEntry,
     // A record points outside the text or past the section count, or a count passes its buffer.
@@ -25,8 +27,15 @@ impl Error {
         ensures { result ≡ place_of self }
     {
         match self {
-            Error::NoEntry => 0,
-            Error::FaultyRecord => 0,
+            Error::NoEntry | Error::FaultyRecord => 0,
         }
     }
 }
+
+impl fmt::Display for Error {
+    fn fmt<W: fmt::Write>(&self, f: &mut fmt::Formatter<W>) -> fmt::Result {
+        write!(f, "refused {} at {}", self.number(), self.place())
+    }
+}
+
+impl std::error::Error for Error {}

@@ -2,10 +2,12 @@
 #![tactic(auto)]
 
 mod error;
+mod lent;
 mod records;
 mod search;
 mod values;
 
 pub use error::Error;
-pub use search::{FindAnswer, Which, find};
-pub use values::{ValueAnswer, value, value_check};
+pub use lent::Lent;
+pub use search::Which;
+pub use values::Part;

@@ -1,82 +1,64 @@
 // The records of sections and entries, and which are faulty.
-ghost use Rattle.std.specs.Prelude.{◌≡◌, ◌+◌, ◌≤◌, length};
-ghost use Rattle.lookup.specs.Decoding.{inside, names_in, entries_in, lent, table_in};
-ghost use Rattle.lookup.specs.Steps.{there, good_entry};
+ghost use Rattle.std.specs.Prelude.{◌≡◌, ℕ, true, ◌+◌, ◌*◌, ◌<◌, ◌≤◌, length};
+ghost use Rattle.lookup.specs.Decoding.{inside, lent_of, table_in};
+ghost use Rattle.lookup.specs.Steps.{there, good_section, good_record, SectionsGood, EntriesGood};
 
-// Whether a part is inside the text.
-pub(crate) fn is_inside(text: &[u8], start: usize, size: usize) -> bool
-    ensures { result ≡ inside text.now start size }
-{
-    if text.len() < start {
-        return false;
-    }
-    size <= text.len() - start
-}
+use crate::lent::Lent;
 
-// Whether so many records of sections are there, and none is faulty.
-fn sections_good(text: &[u8], sections: &[usize], count: usize) -> bool
-    ensures { result ≡ there (names_in text.now count sections.now) }
-{
-    let mut at = 0;
-    let mut left = count;
-    while 0 < left {
-        if sections.len() - at < 2 {
-            return false;
-        }
-        if !is_inside(text, sections[at], sections[at + 1]) {
-            return false;
-        }
-        at += 2;
-        left -= 1;
+impl Lent<'_> {
+    // Whether a part is inside the text.
+    fn is_inside(self, start: usize, size: usize) -> bool
+        ensures { result ≡ inside self.entry.text.now start size }
+    {
+        start <= self.text.len() && size <= self.text.len() - start
     }
-    true
-}
 
-// Whether the entry's record from an index on is not faulty.
-fn entry_good(text: &[u8], section_count: usize, entries: &[usize], at: usize) -> bool
-    requires { at + 5 ≤ length entries.now }
-    ensures { result ≡ good_entry text.now section_count entries.now at }
-{
-    if section_count <= entries[at] {
-        return false;
+    // Whether a section's record, which is there, is not faulty.
+    #[tactic(auto, unfolding(crate::specs::Steps::good_section))]
+    fn section_good(self, index: usize) -> bool
+        requires { 2 * index + 2 ≤ length self.sections.now }
+        ensures { result ≡ good_section (lent_of self.entry) index }
+    {
+        let at = 2 * index;
+        self.is_inside(self.sections[at], self.sections[at + 1])
     }
-    if !is_inside(text, entries[at + 1], entries[at + 2]) {
-        return false;
-    }
-    is_inside(text, entries[at + 3], entries[at + 4])
-}
 
-// The same for entries as for sections.
-fn entries_good(text: &[u8], section_count: usize, entries: &[usize], count: usize) -> bool
-    ensures { result ≡ there (entries_in text.now section_count count entries.now) }
-{
-    let mut at = 0;
-    let mut left = count;
-    while 0 < left {
-        if entries.len() - at < 5 {
-            return false;
-        }
-        if !entry_good(text, section_count, entries, at) {
-            return false;
-        }
-        at += 5;
-        left -= 1;
+    // The same of an entry's record.
+    #[tactic(auto, unfolding(crate::specs::Steps::good_record))]
+    fn entry_good(self, index: usize) -> bool
+        requires { 5 * index + 5 ≤ length self.entries.now }
+        ensures { result ≡ good_record (lent_of self.entry) index }
+    {
+        let at = 5 * index;
+        self.entries[at] < self.section_count
+            && self.is_inside(self.entries[at + 1], self.entries[at + 2])
+            && self.is_inside(self.entries[at + 3], self.entries[at + 4])
     }
-    true
-}
 
-// Whether the buffers hold a table.
-pub(crate) fn holds_table(
-    text: &[u8],
-    sections: &[usize],
-    section_count: usize,
-    entries: &[usize],
-    entry_count: usize,
-) -> bool
-    ensures { result ≡ there (table_in (lent text.now sections.now section_count entries.now entry_count)) }
-{
-    if !sections_good(text, sections, section_count) {
-        return false;
+    // Whether the records of all sections are there, and none is faulty.
+    fn sections_good(self) -> bool
+        ensures fits { result ≡ true → 2 * self.entry.section_count ≤ length self.entry.sections.now }
+        ensures each { result ≡ true → (j : ℕ) → j < self.entry.section_count → good_section (lent_of self.entry) j ≡ true }
+        ensures full { SectionsGood (lent_of self.entry) → result ≡ true }
+    {
+        self.section_count <= self.sections.len() / 2
+            && (0..self.section_count).all(|index| self.section_good(index))
     }
-    entries_good(text, section_count, entries, entry_count)
+
+    // The same of all entries.
+    fn entries_good(self) -> bool
+        ensures fits { result ≡ true → 5 * self.entry.entry_count ≤ length self.entry.entries.now }
+        ensures each { result ≡ true → (i : ℕ) → i < self.entry.entry_count → good_record (lent_of self.entry) i ≡ true }
+        ensures full { EntriesGood (lent_of self.entry) → result ≡ true }
+    {
+        self.entry_count <= self.entries.len() / 5
+            && (0..self.entry_count).all(|index| self.entry_good(index))
+    }
+
+    // Whether the buffers hold a table.
+    pub(crate) fn holds_table(self) -> bool
+        ensures { result ≡ there (table_in (lent_of self.entry)) }
+    {
+        self.sections_good() && self.entries_good()
+    }
 }

@@ -3,7 +3,7 @@ ghost use Rattle.std.specs.Prelude.{◌≤◌, length};
 
 use crate::answers;
 use listing::{notation, show};
-use lookup::Which;
+use lookup::{Lent, Which};
 use std::io;
 
 // The longest buffers.
@@ -13,13 +13,6 @@ const SECTIONS: usize = 300;
 
 const ENTRIES: usize = 3000;
 
-// What is asked.
-#[derive(Clone, Copy)]
-enum Question {
-    Find(Which),
-    Value(usize),
-}
-
 // What stands behind the key in a line.
 pub(crate) fn find_case(
     rt: &impl Print,
@@ -28,48 +21,43 @@ pub(crate) fn find_case(
     key: &[u8],
     line: &[u8],
 ) -> io::Result<()> {
-    case(rt, Question::Find(which), section, key, line)
+    case(rt, line, |rt, lent| {
+        answers::find(rt, lent, which, section, key, |rt, _, _| println!(rt))
+    })
 }
 
 // What stands behind `value ` in a line.
 pub(crate) fn value_case(rt: &impl Print, line: &[u8]) -> io::Result<()> {
     let index = notation::read_number(line);
     let rest = notation::behind(line, index.taken + 1);
-    case(rt, Question::Value(index.value), b"", b"", rest)
+    case(rt, rest, |rt, lent| answers::value(rt, lent, index.value))
 }
 
 // Lays the text.
-fn case(
-    rt: &impl Print,
-    question: Question,
-    section: &[u8],
-    key: &[u8],
+fn case<P: Print, F: Fn(&P, Lent) -> io::Result<()>>(
+    rt: &P,
     line: &[u8],
-) -> io::Result<()> {
+    ask: F,
+) -> io::Result<()>
+    requires { F.IsAlwaysCallable ask }
+{
     let mut text = [0u8; TEXT];
     let Some(laid) = notation::lay_bytes(line, &mut text) else {
         return show::bad_case(rt);
     };
     let counts = notation::behind(line, laid.taken + 1);
-    case_in(
-        rt,
-        question,
-        section,
-        key,
-        show::front(&text, laid.length),
-        counts,
-    )
+    case_in(rt, show::front(&text, laid.length), counts, ask)
 }
 
-// Reads the counts and lays the numbers.
-fn case_in(
-    rt: &impl Print,
-    question: Question,
-    section: &[u8],
-    key: &[u8],
+// Reads the counts, lays the numbers, and asks.
+fn case_in<P: Print, F: Fn(&P, Lent) -> io::Result<()>>(
+    rt: &P,
     text: &[u8],
     counts: &[u8],
-) -> io::Result<()> {
+    ask: F,
+) -> io::Result<()>
+    requires { F.IsAlwaysCallable ask }
+{
     let mut sections = [0usize; SECTIONS];
     let mut entries = [0usize; ENTRIES];
     let m = notation::read_number(counts);
@@ -83,48 +71,19 @@ fn case_in(
     let Some(e) = notation::lay_numbers(notation::behind(lists, colon + 1), &mut entries) else {
         return show::bad_case(rt);
     };
-    ask(
-        rt,
-        question,
-        section,
-        key,
+    let lent = Lent {
         text,
-        show::front(&sections, s),
-        m.value,
-        show::front(&entries, e),
-        k.value,
-    )
+        sections: show::front(&sections, s),
+        section_count: m.value,
+        entries: show::front(&entries, e),
+        entry_count: k.value,
+    };
+    ask(rt, lent)
 }
 
 // How many bytes stand before the first colon, all of them where there is none.
 fn before_colon(line: &[u8]) -> usize
     ensures { result ≤ length line.now }
 {
-    let mut i = 0;
-    while i < line.len() {
-        if line[i] == b':' {
-            return i;
-        }
-        i += 1;
-    }
-    i
-}
-
-fn ask(
-    rt: &impl Print,
-    question: Question,
-    section: &[u8],
-    key: &[u8],
-    text: &[u8],
-    sections: &[usize],
-    m: usize,
-    entries: &[usize],
-    k: usize,
-) -> io::Result<()> {
-    match question {
-        Question::Find(which) => answers::find(
-            rt, which, section, key, text, sections, m, entries, k, false,
-        ),
-        Question::Value(index) => answers::value(rt, index, text, sections, m, entries, k),
-    }
+    line.iter().position(|b| *b == b':').unwrap_or(line.len())
 }

@@ -1,5 +1,6 @@
 -- A call of `normal_text`: what the read call has left is the file's table, whose normal text fits; and what is then put.
 use Rattle.std.specs.Prelude.{Result, Ok, Err}
+use Rattle.std.specs.Result.{IsErrAnd}
 use mathlib.Core.Path.{◌≡◌, refl, sym, ap, subst, ◌∙◌}
 use Prim.Native.Nat.{ℕ, ◌≤◌, ◌<◌}
 use native.Mathlib.Nat.{zero-add}
@@ -25,20 +26,20 @@ use Rattle.table.specs.declared.state.Counts.{Counts}
 use Rattle.table.proofs.Laws.{tables_fit}
 use Rattle.table.proofs.ReadCalls.{table_kept}
 use Rattle.lookup.specs.Decoding.{lent, table_in}
-use Rattle.lookup.specs.Laws.{read_into, decoded_of}
+use Rattle.lookup.specs.Laws.{Sound, read_into, decoded_of}
 use Rattle.lookup.proofs.Laws.{tables_decode}
 use Rattle.normal_text.specs.Sections.{sections_of}
 use Rattle.normal_text.specs.NormalText.{normal_text}
 use Rattle.normal_text.specs.Answers.{normal_of, sized, out_after, NormalLeaves, normal_in, Normalizes}
-use Rattle.normal_text.specs.declared.normal.NormalAnswer.TheVariants.{Accepted, Refused}
-use Rattle.normal_text.specs.Steps.{sections_at, NamePartsInside, EntryPartsInside, SectionsBelow}
-use Rattle.normal_text.proofs.Records.{names-inside, entries-inside, sections_below, sections_said}
+use Rattle.normal_text.specs.declared.normal.Sizes.{Sizes}
+use Rattle.normal_text.specs.Steps.{sections_said}
+use Rattle.normal_text.proofs.Records.{sound, sections_told}
 use Rattle.normal_text.proofs.Theorem.{sections_in_lem, normal_fits, space_decides}
 
 -- ---- 1
 
 pub no_space : (f text : Bytes) (sections entries : List ℕ) (out : Bytes) → length out < 65535
-    → Normalizes f text sections entries out (Refused (File ShortBuffer)) text sections entries out
+    → Normalizes f text sections entries out (Err (File ShortBuffer)) text sections entries out
 no_space f text sections entries out h =
     let e : normal_in (length text) (length sections) (length entries) (length out) f ≡ refused 1 0 = unfold normal_in in (rw (lt-ltb (length out) 65535 h)) in
     record {
@@ -113,25 +114,22 @@ module _ (f d : Bytes) (e g : List ℕ) (r : Result Counts Error) (text : Bytes)
   decodes = ap table_in lent_is ∙ tables_decode f t judged d e g
 
   -- so its sections are said by the records
-  said : normal_text (sections_at text sections m numbers k) ≡ normal_of t
+  said : normal_text (sections_said (lent text sections m numbers k)) ≡ normal_of t
   unfolding sections_of
-  said = ap normal_text (sections_said (lent text sections m numbers k) (decoded_of t) decodes)
+  said = ap normal_text (sections_told (lent text sections m numbers k) (decoded_of t) decodes)
 
-  fits : length (normal_text (sections_at text sections m numbers k)) ≤ 65535
+  fits : length (normal_text (sections_said (lent text sections m numbers k))) ≤ 65535
   fits =
       let h = normal_fits f (sections_of t) (sections_in_lem f t judged) in
       omega (arith, ap length said, h.0, h.1)
 
   -- what putting the normal text asks for
   pub asked : (out : Bytes) → 65535 ≤ length out
-      → NamePartsInside text sections m × EntryPartsInside text numbers k × SectionsBelow m numbers k × (m ≤ 64) × (k ≤ 512)
-      × (length (normal_text (sections_at text sections m numbers k)) ≤ length out)
+      → Sound (lent text sections m numbers k) × (m ≤ 64) × (k ≤ 512)
+      × (length (normal_text (sections_said (lent text sections m numbers k))) ≤ length out)
   asked out h =
-      let b = lent text sections m numbers k in
       let s = (tables_fit f t judged).0 in (
-        names-inside b (decoded_of t) decodes,
-        entries-inside b (decoded_of t) decodes,
-        sections_below b (decoded_of t) decodes,
+        sound (lent text sections m numbers k) (decoded_of t) decodes,
         omega (arith, ap (λ (c : Counts). c.sections) there.2, s.few_sections),
         omega (arith, ap (λ (c : Counts). c.entries) there.2, s.few_entries),
         omega (arith, fits),
@@ -139,12 +137,12 @@ module _ (f d : Bytes) (e g : List ℕ) (r : Result Counts Error) (text : Bytes)
 
   -- what stands in the four buffers when it was put
   pub written_out : (out : Bytes) → 65535 ≤ length out → (l : ℕ) (out' : Bytes)
-      → Puts out 0 (normal_text (sections_at text sections m numbers k)) l out'
-      → Normalizes f d e g out (Accepted l counts.text m k) text sections numbers out'
+      → Puts out 0 (normal_text (sections_said (lent text sections m numbers k))) l out'
+      → Normalizes f d e g out (Ok (record { length = l; table = counts })) text sections numbers out'
   written_out out h l out' p =
       let o : normal_in (length d) (length e) (length g) (length out) f ≡ accepted t = space_decides (length d) (length e) (length g) (length out) f h ∙ there.1 in
       let long : l ≡ length (normal_of t) = omega (arith, p.behind, ap length said) in
-      subst (λ (v : Outcome Table). NormalLeaves v d e g out (Accepted l counts.text m k) text sections numbers out') (sym o)
+      subst (λ (v : Outcome Table). NormalLeaves v d e g out (Ok (record { length = l; table = counts })) text sections numbers out') (sym o)
       (record {
         answer = rw long (ap (λ (c : Counts). accepted (record { length = length (normal_of t); table = c })) there.2);
         left = record { new_text = text_is; new_sections = sections_are; new_entries = entries_are };
@@ -155,16 +153,21 @@ module _ (f d : Bytes) (e g : List ℕ) (r : Result Counts Error) (text : Bytes)
 
 -- the refusal is that of the call, and nothing has changed
 pub read_refused : (f d : Bytes) (e g : List ℕ) (r : Result Counts Error) (text : Bytes) (sections numbers : List ℕ) → Reads f d e g r text sections numbers
-    → (k : Error) → r ≡ Err k → (out : Bytes) → 65535 ≤ length out → Normalizes f d e g out (Refused k) text sections numbers out
+    → (k : Error) → r ≡ Err k → (out : Bytes) → 65535 ≤ length out → Normalizes f d e g out (Err k) text sections numbers out
 read_refused f d e g r text sections numbers read k known out h =
-    subst (λ (v : Outcome Table). NormalLeaves v d e g out (Refused k) text sections numbers out)
+    subst (λ (v : Outcome Table). NormalLeaves v d e g out (Err k) text sections numbers out)
     (sym (space_decides (length d) (length e) (length g) (length out) f h))
     (go (read_in (length d) (length e) (length g) f) (subst (λ (a : Result Counts Error). Reads f d e g a text sections numbers) known read))
   where
-    go : (o : Outcome Table) → ReadLeaves o d e g (Err k) text sections numbers → NormalLeaves o d e g out (Refused k) text sections numbers out
+    go : (o : Outcome Table) → ReadLeaves o d e g (Err k) text sections numbers → NormalLeaves o d e g out (Err k) text sections numbers out
     go (accepted t) p = not_accepted (number_of k) (place_of k) (counts_of t) p.answer
     go (refused n q) p = record {
       answer = cc p.answer;
       left = p.left;
       new_out = refl;
     }
+
+-- the error that `?` hands on
+pub handed_on : (r : Result Sizes Error) (k : Error) → IsErrAnd r (λ e. e ≡ k) → r ≡ Err k
+handed_on (Ok s) k h = absurd h
+handed_on (Err e) k h = ap (λ (d : Error). Err d) h

@@ -1,6 +1,6 @@
 -- The loops over the entries of a section and over the sections: what is still to be written stands behind what was.
 use mathlib.Core.Path.{◌≡◌, refl, sym, ap, subst, ◌∙◌}
-use Prim.Native.Nat.{ℕ, suc, ◌+◌, ◌*◌, ◌≤◌, ◌<◌}
+use Prim.Native.Nat.{ℕ, suc, ◌+◌, ◌-◌, ◌*◌, ◌≤◌, ◌<◌}
 use native.Mathlib.Omega.{arith}
 use mathlib.Core.List.{List, [], ◌∷◌, ◌++◌, append_assoc, append-nil}
 use lib.ListN.{length, drop, get_or, length-append}
@@ -10,12 +10,14 @@ use Rattle.lines.specs.Buffers.{Puts}
 use Rattle.lines.proofs.Whole.{written_append}
 use Rattle.lines.proofs.Putting.{puts_nothing, puts_then, puts_length}
 use Rattle.table.specs.Tables.{Entry}
+use Rattle.lookup.specs.Decoding.{Lent}
 use Rattle.lookup.specs.Steps.{entry_of}
+use Rattle.std.specs.Prelude.{Option, None, Some}
 use Rattle.normal_text.specs.Sections.{Pair, pair_of, Section, of_section, sections_from}
 use Rattle.normal_text.specs.NormalText.{header_line, entry_line, entry_lines, normal_lines, normal_text}
-use Rattle.normal_text.specs.Steps.{name_at, names_at, entries_at, Leads, Linked, with_lf, entries_text}
-use Rattle.normal_text.proofs.Listed.{here, none_left}
-use Rattle.normal_text.proofs.LinkLaws.{of_own, of_none}
+use Rattle.normal_text.specs.Steps.{name_at, names_at, entries_said, LeadsTo, Linked, with_lf, entries_text}
+use Rattle.normal_text.proofs.Listed.{all_listed, here, none_left}
+use Rattle.normal_text.proofs.LinkLaws.{of_own}
 
 -- ---- texts
 
@@ -79,66 +81,85 @@ module _ {all ahead d : Bytes} {at end : ℕ} {d' : Bytes} (p : Putting all ahea
 
 -- ---- the entries of a section
 
-module _ (text : Bytes) (ns : List ℕ) (k j : ℕ) (firsts nexts : List ℕ) (linked : Linked (entries_at text ns k) 0 firsts nexts) where
-  -- the entries of the section from `from` on are still to come, and i is the first of them
-  pub record EntriesPut (d : Bytes) (at i end : ℕ) (d' : Bytes) : Type 0 where
+-- what is left of a section's entries, by the index of the next one
+abbrev pub left_from : (count : ℕ) → Option ℕ → ℕ
+left_from count None = 0
+left_from count (Some i) = count - i
+
+module _ (b : Lent) (j : ℕ) where
+  abbrev es : List Entry
+  es = entries_said b
+
+  abbrev said : ℕ → Entry
+  said i = entry_of b.text b.entry_numbers (5 * i)
+
+  -- the entries of the section from `from` on are still to come, and `next` says the first of them
+  pub record EntriesPut (d : Bytes) (at : ℕ) (next : Option ℕ) (end : ℕ) (d' : Bytes) : Type 0 where
     pub from : ℕ
-    pub leads : Leads (entries_at text ns k) j from i
-    pub putting : Putting (entries_text j (entries_at text ns k)) (entries_text j (drop from (entries_at text ns k))) d at end d'
+    pub leads : LeadsTo es j from next
+    pub putting : Putting (entries_text j es) (entries_text j (drop from es)) d at end d'
 
-  pub entries_start : (d : Bytes) (at : ℕ) → j < length firsts → at + length (entries_text j (entries_at text ns k)) ≤ length d
-      → EntriesPut d at (get_or firsts j 0) at d
-  entries_start d at h f = record { from = 0; leads = linked.first j h; putting = putting_start (entries_text j (entries_at text ns k)) d at f }
+  -- where it says one
+  pub at_some : {d : Bytes} {at : ℕ} {next : Option ℕ} {i end : ℕ} {d' : Bytes} → next ≡ Some i → EntriesPut d at next end d' → EntriesPut d at (Some i) end d'
+  at_some {d} {at} {next} {i} {end} {d'} q p = subst (λ (o : Option ℕ). EntriesPut d at o end d') q p
 
-  module _ (d : Bytes) (at i end : ℕ) (d' : Bytes) (p : EntriesPut d at i end d') where
-    abbrev es : List Entry
-    es = entries_at text ns k
+  pub entries_start : (firsts nexts : List (Option ℕ)) (linked : Linked es 0 firsts nexts) (d : Bytes) (at : ℕ) → j < length firsts → at + length (entries_text j es) ≤ length d
+      → EntriesPut d at (get_or firsts j None) at d
+  entries_start firsts nexts linked d at h f = record { from = 0; leads = linked.first j h; putting = putting_start (entries_text j es) d at f }
 
-    module _ (h : i < k) where
-      entry_here : drop i es ≡ entry_of text ns (5 * i) ∷ drop (suc i) es
-      entry_here = here (λ n. entry_of text ns (5 * n)) k i h
+  module _ (d : Bytes) (at i end : ℕ) (d' : Bytes) (p : EntriesPut d at (Some i) end d') where
+    -- it is an entry
+    pub entry-there : i < b.entry_count
+    entry-there = omega (arith, p.leads.there, all_listed said b.entry_count)
 
-      own : (entry_of text ns (5 * i)).section ≡ j
-      own = p.leads.own (entry_of text ns (5 * i)) (drop (suc i) es) entry_here
+    entry_here : drop i es ≡ said i ∷ drop (suc i) es
+    entry_here = here said b.entry_count i entry-there
 
-      -- the entry's line is next
-      pub entry_next : entries_text j (drop p.from es) ≡ with_lf (entry_line (pair_of (entry_of text ns (5 * i)))) ++ entries_text j (drop (suc i) es)
-      entry_next =
-          ap (λ (l : List Pair). written (entry_lines l))
-          (p.leads.passed ∙ ap (of_section pair_of j) entry_here ∙ of_own j (entry_of text ns (5 * i)) (drop (suc i) es) own)
-          ∙ entries_first (pair_of (entry_of text ns (5 * i))) (of_section pair_of j (drop (suc i) es))
+    own : (said i).section ≡ j
+    own = p.leads.own (said i) (drop (suc i) es) entry_here
 
-      pub entry-fits : end + length (with_lf (entry_line (pair_of (entry_of text ns (5 * i))))) ≤ length d'
-      entry-fits =
-          omega (
-            arith,
-            putting_fits p.putting,
-            ap length entry_next,
-            length-append (with_lf (entry_line (pair_of (entry_of text ns (5 * i))))) (entries_text j (drop (suc i) es)),
-          )
+    -- the entry's line is next
+    pub entry_next : entries_text j (drop p.from es) ≡ with_lf (entry_line (pair_of (said i))) ++ entries_text j (drop (suc i) es)
+    entry_next =
+        ap (λ (l : List Pair). written (entry_lines l))
+        (p.leads.passed ∙ ap (of_section pair_of j) entry_here ∙ of_own j (said i) (drop (suc i) es) own)
+        ∙ entries_first (pair_of (said i)) (of_section pair_of j (drop (suc i) es))
 
-      next_leads : Leads es j (suc i) (get_or nexts i 0)
-      next_leads = rw own at (linked.next i (omega arith) (entry_of text ns (5 * i)) (drop (suc i) es) entry_here)
+    pub entry-fits : end + length (with_lf (entry_line (pair_of (said i)))) ≤ length d'
+    entry-fits =
+        omega (
+          arith,
+          putting_fits p.putting,
+          ap length entry_next,
+          length-append (with_lf (entry_line (pair_of (said i)))) (entries_text j (drop (suc i) es)),
+        )
 
-      -- the next one lies further on
-      pub entry-later : suc i ≤ get_or nexts i 0
-      entry-later = next_leads.later
+    -- fewer are left then
+    fewer : (o : Option ℕ) → LeadsTo es j (suc i) o → left_from b.entry_count o < b.entry_count - i
+    fewer None h = omega (arith, entry-there)
+    fewer (Some n) h = omega (arith, entry-there, h.later)
 
-      pub entries_more : (end' : ℕ) (d'' : Bytes) → Puts d' end (with_lf (entry_line (pair_of (entry_of text ns (5 * i))))) end' d'' → EntriesPut d at (get_or nexts i 0) end' d''
+    module _ (firsts nexts : List (Option ℕ)) (linked : Linked es 0 firsts nexts) where
+      next_leads : LeadsTo es j (suc i) (get_or nexts i None)
+      next_leads = rw own at (linked.next i (omega arith) (said i) (drop (suc i) es) entry_here)
+
+      pub entries_fewer : left_from b.entry_count (get_or nexts i None) < b.entry_count - i
+      entries_fewer = fewer (get_or nexts i None) next_leads
+
+      pub entries_more : (end' : ℕ) (d'' : Bytes) → Puts d' end (with_lf (entry_line (pair_of (said i)))) end' d'' → EntriesPut d at (get_or nexts i None) end' d''
       entries_more end' d'' q = record {
         from = suc i;
         leads = next_leads;
-        putting = putting_more p.putting (with_lf (entry_line (pair_of (entry_of text ns (5 * i))))) (entries_text j (drop (suc i) es)) end' d'' entry_next q;
+        putting = putting_more p.putting (with_lf (entry_line (pair_of (said i)))) (entries_text j (drop (suc i) es)) end' d'' entry_next q;
       }
 
+  module _ (d : Bytes) (at : ℕ) (next : Option ℕ) (end : ℕ) (d' : Bytes) (p : EntriesPut d at next end d') where
     pub entries-length : length d' ≡ length d
     entries-length = putting_length p.putting
 
-    pub entries_end : k ≤ i → Puts d at (entries_text j es) end d'
-    entries_end h =
-        putting_end p.putting
-        (ap (λ (l : List Pair). written (entry_lines l)) (p.leads.passed ∙ ap (of_section pair_of j) (none_left (λ n. entry_of text ns (5 * n)) k i h) ∙ of_none j)
-        ∙ entries_none)
+  pub entries_end : (d : Bytes) (at end : ℕ) (d' : Bytes) → EntriesPut d at None end d' → Puts d at (entries_text j es) end d'
+  entries_end d at end d' p =
+      putting_end p.putting (ap (λ (l : List Pair). written (entry_lines l)) p.leads ∙ entries_none)
 
 -- ---- the sections
 

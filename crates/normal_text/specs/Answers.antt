@@ -1,5 +1,5 @@
 -- What the answer of `normal_text` means in the rules, and what a call leaves in the four buffers (the rules' rooms).
-use Rattle.std.specs.Prelude.{◌≡◌, ℕ, cond, List, length, ltb}
+use Rattle.std.specs.Prelude.{◌≡◌, ℕ, cond, List, length, ltb, Result, Ok, Err}
 use Rattle.lines.specs.Bytes.{Bytes}
 use Rattle.lines.specs.Answers.{Outcome, accepted, refused}
 use Rattle.lines.specs.Buffers.{filled}
@@ -8,18 +8,13 @@ use Rattle.table.specs.declared.state.Counts.{Counts}
 use Rattle.table.specs.Answers.{error_means, counts_of, TableLeft, read_in}
 use Rattle.normal_text.specs.Sections.{sections_of}
 use Rattle.normal_text.specs.NormalText.{normal_text}
-use Rattle.normal_text.specs.declared.normal.NormalAnswer.{NormalAnswer}
-use Rattle.normal_text.specs.declared.normal.NormalAnswer.TheVariants.{Accepted, Refused}
-
--- how long the normal text is, and the counts of the table
-pub record Sizes : Type 0 where
-  pub length : ℕ
-  pub table : Counts
+use Rattle.table.specs.declared.error.Error.{Error}
+use Rattle.normal_text.specs.declared.normal.Sizes.{Sizes}
 
 -- what the answer of `normal_text` means
-abbrev pub normal_means : NormalAnswer → Outcome Sizes
-normal_means (Accepted n t m k) = accepted (record { length = n; table = record { text = t; sections = m; entries = k } })
-normal_means (Refused e) = error_means e
+abbrev pub normal_means : Result Sizes Error → Outcome Sizes
+normal_means (Ok s) = accepted s
+normal_means (Err e) = error_means e
 
 -- the normal text of a table
 abbrev pub normal_of : Table → Bytes
@@ -41,7 +36,7 @@ out_after (refused n p) d = d
 
 -- what a call answers and leaves in the four buffers, where this is the outcome; the reader's three hold the table
 pub record NormalLeaves (o : Outcome Table) (text : Bytes) (sections entries : List ℕ) (out : Bytes)
-    (r : NormalAnswer) (text' : Bytes) (sections' entries' : List ℕ) (out' : Bytes) : Type 0 where
+    (r : Result Sizes Error) (text' : Bytes) (sections' entries' : List ℕ) (out' : Bytes) : Type 0 where
   pub answer : normal_means r ≡ sized o
   pub left : TableLeft o text sections entries text' sections' entries'
   pub new_out : out' ≡ out_after o out
@@ -54,7 +49,7 @@ normal_in text_size sections_size entries_size out_size f =
 
 -- the promise of `normal_text`: the answer, and the four buffers whole
 abbrev pub Normalizes : (f text : Bytes) (sections entries : List ℕ) (out : Bytes)
-    (r : NormalAnswer) (text' : Bytes) (sections' entries' : List ℕ) (out' : Bytes) → Type 0
+    (r : Result Sizes Error) (text' : Bytes) (sections' entries' : List ℕ) (out' : Bytes) → Type 0
 Normalizes f text sections entries out r text' sections' entries' out' =
     NormalLeaves (normal_in (length text) (length sections) (length entries) (length out) f)
     text sections entries out r text' sections' entries' out'

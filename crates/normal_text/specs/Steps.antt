@@ -1,12 +1,13 @@
 -- What the functions inside the crate promise. No public promise cites this file.
-use Rattle.std.specs.Prelude.{◌≡◌, ℕ, zero, suc, ◌+◌, ◌*◌, ◌≤◌, ◌<◌, List, [], ◌∷◌, ◌++◌, length, drop, get_or}
+use Rattle.std.specs.Prelude.{Option, None, Some, ◌≡◌, ℕ, zero, suc, ◌+◌, ◌*◌, ◌≤◌, ◌<◌, List, [], ◌∷◌, ◌++◌, length, drop, get_or}
 use Rattle.lines.specs.Bytes.{Bytes}
 use Rattle.lines.specs.Lines.{written}
 use Rattle.table.specs.Tables.{Entry}
-use Rattle.lookup.specs.Decoding.{part}
+use Rattle.lookup.specs.Decoding.{part, Lent}
 use Rattle.lookup.specs.Steps.{entry_of}
 use Rattle.normal_text.specs.Sections.{Pair, pair_of, Section, of_section, sections_from}
 use Rattle.normal_text.specs.NormalText.{entry_lines}
+use Rattle.normal_text.specs.declared.links.Links.{Links}
 
 -- ---- the table that good records say
 
@@ -27,46 +28,38 @@ names_at text ns m = listed (λ j. name_at text ns (2 * j)) m 0
 abbrev pub entries_at : Bytes → List ℕ → (count : ℕ) → List Entry
 entries_at text ns k = listed (λ i. entry_of text ns (5 * i)) k 0
 
--- the sections that the records say
-abbrev pub sections_at : (text : Bytes) (sections : List ℕ) (m : ℕ) (entries : List ℕ) (k : ℕ) → List (Section Pair)
-sections_at text sections m entries k = sections_from pair_of 0 (names_at text sections m) (entries_at text entries k)
+-- the entries that the records say of what is lent
+abbrev pub entries_said : Lent → List Entry
+entries_said b = entries_at b.text b.entry_numbers b.entry_count
 
--- so many sections' records are there, and their names are inside the text
-pub record NamePartsInside (text : Bytes) (ns : List ℕ) (m : ℕ) : Type 0 where
-  pub there : 2 * m ≤ length ns
-  pub names : (j : ℕ) → j < m → get_or ns (2 * j) 0 + get_or ns (2 * j + 1) 0 ≤ length text
-
--- so many entries' records are there, and their keys and values are inside the text
-pub record EntryPartsInside (text : Bytes) (ns : List ℕ) (k : ℕ) : Type 0 where
-  pub there : 5 * k ≤ length ns
-  pub keys : (i : ℕ) → i < k → get_or ns (5 * i + 1) 0 + get_or ns (5 * i + 2) 0 ≤ length text
-  pub values : (i : ℕ) → i < k → get_or ns (5 * i + 3) 0 + get_or ns (5 * i + 4) 0 ≤ length text
-
--- the entries are of sections below m
-abbrev pub SectionsBelow : (m : ℕ) (ns : List ℕ) (k : ℕ) → Type 0
-SectionsBelow m ns k = (i : ℕ) → i < k → get_or ns (5 * i) 0 < m
+-- and the sections, with their entries
+abbrev pub sections_said : Lent → List (Section Pair)
+sections_said b = sections_from pair_of 0 (names_at b.text b.section_numbers b.section_count) (entries_said b)
 
 -- ---- links: the first entry of a section, and the next one of an entry's section
 
--- Of the entries from i on, `at` is the first of section j: none is passed over, and it is one of them. An index that is no
--- entry's says that there is none.
+-- Of the entries from i on, the one with the index `at` is the first of section j: none is passed over.
 pub record Leads (es : List Entry) (j i at : ℕ) : Type 0 where
   pub later : i ≤ at
+  pub there : at < length es
   pub passed : of_section pair_of j (drop i es) ≡ of_section pair_of j (drop at es)
   pub own : (e : Entry) (rest : List Entry) → drop at es ≡ e ∷ rest → e.section ≡ j
 
+-- so it is where there is one; else none of them is of section j
+abbrev pub LeadsTo : (es : List Entry) (j i : ℕ) → Option ℕ → Type 0
+LeadsTo es j i None = of_section pair_of j (drop i es) ≡ []
+LeadsTo es j i (Some at) = Leads es j i at
+
 -- the links of all sections lead from entry i on, and so do those of the entries from i on
-pub record Linked (es : List Entry) (i : ℕ) (firsts nexts : List ℕ) : Type 0 where
-  pub first : (j : ℕ) → j < length firsts → Leads es j i (get_or firsts j 0)
-  pub next : (n : ℕ) → i ≤ n → (e : Entry) (rest : List Entry) → drop n es ≡ e ∷ rest → Leads es e.section (suc n) (get_or nexts n 0)
+pub record Linked (es : List Entry) (i : ℕ) (firsts nexts : List (Option ℕ)) : Type 0 where
+  pub first : (j : ℕ) → j < length firsts → LeadsTo es j i (get_or firsts j None)
+  pub next : (n : ℕ) → i ≤ n → (e : Entry) (rest : List Entry) → drop n es ≡ e ∷ rest → LeadsTo es e.section (suc n) (get_or nexts n None)
 
--- all entries are linked, whatever the text says
-abbrev pub AllLinked : (entries : List ℕ) (count : ℕ) (firsts nexts : List ℕ) → Type 0
-AllLinked entries count firsts nexts = (text : Bytes) → Linked (entries_at text entries count) 0 firsts nexts
-
--- no section has a first entry yet
-abbrev pub NoLinks : (count : ℕ) (firsts : List ℕ) → Type 0
-NoLinks count firsts = (j : ℕ) → j < length firsts → count ≤ get_or firsts j 0
+-- all entries are linked
+pub record AreLinks (b : Lent) (l : Links) : Type 0 where
+  pub first_count : length l.firsts ≡ 64
+  pub next_count : length l.nexts ≡ 512
+  pub linked : Linked (entries_said b) 0 l.firsts l.nexts
 
 -- ---- what is put into the output buffer
 

@@ -5,4 +5,4 @@ mod links;
 mod normal;
 mod writer;
 
-pub use normal::{NormalAnswer, normal_text};
+pub use normal::{Sizes, normal_text};

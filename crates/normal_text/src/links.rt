@@ -1,18 +1,38 @@
 // Which entry of a section comes next.
-ghost use Rattle.std.specs.Prelude.{◌*◌, ◌≤◌, length};
-ghost use Rattle.normal_text.specs.Steps.{SectionsBelow, AllLinked, NoLinks};
+ghost use Rattle.std.specs.Prelude.{◌≤◌};
+ghost use Rattle.lookup.specs.Decoding.{lent_of};
+ghost use Rattle.lookup.specs.Laws.{Sound};
+ghost use Rattle.normal_text.specs.Steps.{AreLinks};
 
-// Links the entries of each section: `firsts` has for each section the index of its first entry, `nexts` for each entry that
-// of the next one of its section. An index that is no entry's says that there is none; `firsts` starts with such.
-pub(crate) fn link(entries: &[usize], count: usize, firsts: &mut [usize], nexts: &mut [usize])
-    requires { (5 * count ≤ length entries.now) × (count ≤ length nexts.old) × (length firsts.old ≤ 64) × SectionsBelow (length firsts.old) entries.now count × NoLinks count firsts.old }
-    ensures { AllLinked entries.now count firsts.new nexts.new }
-{
-    let mut i = count;
-    while 0 < i {
-        i -= 1;
-        let section = entries[5 * i];
-        nexts[i] = firsts[section];
-        firsts[section] = i;
+use lookup::Lent;
+
+// The most sections and entries of a table.
+const MOST_SECTIONS: usize = 64;
+
+const MOST_ENTRIES: usize = 512;
+
+// For each section the index of its first entry, and for each entry that of the next one of its section.
+#[derive(Drop)]
+pub(crate) struct Links {
+    pub firsts: [Option<usize>; MOST_SECTIONS],
+    pub nexts: [Option<usize>; MOST_ENTRIES],
+}
+
+impl Links {
+    // Links the entries of a table, from the last to the first.
+    pub(crate) fn of(table: Lent) -> Links
+        requires sound { Sound (lent_of table) }
+        requires few_sections { table.section_count ≤ 64 }
+        requires few_entries { table.entry_count ≤ 512 }
+        ensures { AreLinks (lent_of table.entry) result }
+    {
+        let mut firsts = [None; MOST_SECTIONS];
+        let mut nexts = [None; MOST_ENTRIES];
+        for i in (0..table.entry_count).rev() {
+            let section = table.entries[5 * i];
+            nexts[i] = firsts[section];
+            firsts[section] = Some(i);
+        }
+        Links { firsts, nexts }
     }
 }

@@ -9,16 +9,16 @@ returns-then-again-lt-OUT_BYTES c = twice_short _ _ _ c.if-again-lt-OUT_BYTES.tr
 
 pub slice_bounds-normal_into-end : goal.slice_bounds-normal_into-end
 slice_bounds-normal_into-end c = let a = c.args in
-    omega (arith, (into_text a.file.now a.out.now c.normal_into.result _ c.normal_into.ensures _ _ _ _ c.in-Accepted.is).inside)
+    omega (arith, (into_text a.file.now a.out.now c.normal_into.result _ c.normal_into.ensures _ c.in-Ok.is).inside)
 
-pub returns-in-Accepted-normal_into : goal.returns-in-Accepted-normal_into
-returns-in-Accepted-normal_into c = let a = c.args in
-    twice_held a.file.now a.out.now a.again.now c.if-again-lt-OUT_BYTES.false c.normal_into.result _ c.normal_into.ensures _ _ _ _ c.in-Accepted.is c.normal_into-in-Accepted.result _ c.normal_into-in-Accepted.ensures _ _ _ _ c.in-Accepted-normal_into.is
+pub returns-in-Ok-normal_into : goal.returns-in-Ok-normal_into
+returns-in-Ok-normal_into c = let a = c.args in
+    twice_held a.file.now a.out.now a.again.now c.if-again-lt-OUT_BYTES.false c.normal_into.result _ c.normal_into.ensures _ c.in-Ok.is c.normal_into-in-Ok.result _ c.normal_into-in-Ok.ensures _ c.in-Ok-normal_into.is
 
-pub returns-in-Refused-normal_into : goal.returns-in-Refused-normal_into
-returns-in-Refused-normal_into c = let a = c.args in
-    twice_never a.file.now a.out.now a.again.now c.if-again-lt-OUT_BYTES.false c.normal_into.result _ c.normal_into.ensures _ _ _ _ c.in-Accepted.is c.normal_into-in-Accepted.result _ c.normal_into-in-Accepted.ensures _ c.in-Refused-normal_into.is
+pub returns-in-Err-normal_into : goal.returns-in-Err-normal_into
+returns-in-Err-normal_into c = let a = c.args in
+    twice_never a.file.now a.out.now a.again.now c.if-again-lt-OUT_BYTES.false c.normal_into.result _ c.normal_into.ensures _ c.in-Ok.is c.normal_into-in-Ok.result _ c.normal_into-in-Ok.ensures _ c.in-Err-normal_into.is
 
-pub returns-in-Refused : goal.returns-in-Refused
-returns-in-Refused c = let a = c.args in
-    twice_refused a.file.now a.out.now a.again.now c.if-again-lt-OUT_BYTES.false c.normal_into.result _ c.normal_into.ensures _ c.in-Refused.is
+pub returns-in-Err : goal.returns-in-Err
+returns-in-Err c = let a = c.args in
+    twice_refused a.file.now a.out.now a.again.now c.if-again-lt-OUT_BYTES.false c.normal_into.result _ c.normal_into.ensures _ c.in-Err.is

@@ -12,16 +12,16 @@ returns-then-other_out-lt-OUT_BYTES c = alike_short_other _ _ _ _ c.if-other_out
 
 pub slice_bounds-compare_other-end : goal.slice_bounds-compare_other-end
 slice_bounds-compare_other-end c = let a = c.args in
-    omega (arith, text_inside a.file.now a.other.now a.out.now a.other_out.now c.if-out-lt-OUT_BYTES.false c.if-other_out-lt-OUT_BYTES.false _ (search rules) c.normal_into.result _ c.normal_into.ensures _ _ _ _ c.in-Accepted.is)
+    omega (arith, text_inside a.file.now a.other.now a.out.now a.other_out.now c.if-out-lt-OUT_BYTES.false c.if-other_out-lt-OUT_BYTES.false _ (search rules) c.normal_into.result _ c.normal_into.ensures _ c.in-Ok.is)
 
 pub compare_other-requires : goal.compare_other-requires
 compare_other-requires c = let a = c.args in
-    (text_fits_out a.file.now a.other.now a.out.now a.other_out.now c.if-out-lt-OUT_BYTES.false c.if-other_out-lt-OUT_BYTES.false _ (search rules) c.normal_into.result _ c.normal_into.ensures _ _ _ _ c.in-Accepted.is, c.if-other_out-lt-OUT_BYTES.false)
+    (text_fits_out a.file.now a.other.now a.out.now a.other_out.now c.if-out-lt-OUT_BYTES.false c.if-other_out-lt-OUT_BYTES.false _ (search rules) c.normal_into.result _ c.normal_into.ensures _ c.in-Ok.is, c.if-other_out-lt-OUT_BYTES.false)
 
-pub returns-in-Accepted : goal.returns-in-Accepted
-returns-in-Accepted c = let a = c.args in
-    alike-compared a.file.now a.other.now a.out.now a.other_out.now c.if-out-lt-OUT_BYTES.false c.if-other_out-lt-OUT_BYTES.false _ (search rules) c.normal_into.result _ c.normal_into.ensures _ _ _ _ c.in-Accepted.is c.compare_other.result _ _ c.compare_other.ensures
+pub returns-in-Ok : goal.returns-in-Ok
+returns-in-Ok c = let a = c.args in
+    alike-compared a.file.now a.other.now a.out.now a.other_out.now c.if-out-lt-OUT_BYTES.false c.if-other_out-lt-OUT_BYTES.false _ (search rules) c.normal_into.result _ c.normal_into.ensures _ c.in-Ok.is c.compare_other.result _ _ c.compare_other.ensures
 
-pub returns-in-Refused : goal.returns-in-Refused
-returns-in-Refused c = let a = c.args in
-    alike_refused a.file.now a.other.now a.out.now a.other_out.now c.if-out-lt-OUT_BYTES.false c.if-other_out-lt-OUT_BYTES.false _ (search rules) c.normal_into.result _ c.normal_into.ensures _ c.in-Refused.is
+pub returns-in-Err : goal.returns-in-Err
+returns-in-Err c = let a = c.args in
+    alike_refused a.file.now a.other.now a.out.now a.other_out.now c.if-out-lt-OUT_BYTES.false c.if-other_out-lt-OUT_BYTES.false _ (search rules) c.normal_into.result _ c.normal_into.ensures _ c.in-Err.is

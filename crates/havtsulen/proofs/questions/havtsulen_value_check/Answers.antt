@@ -8,10 +8,10 @@ pub returns-then-report-lt-REPORT_NUMBERS : goal.returns-then-report-lt-REPORT_N
 returns-then-report-lt-REPORT_NUMBERS c = let a = c.args in
     check_short (lent a.text.now a.sections.now a.section_count a.entries.now a.entry_count) a.index a.report.now (omega (arith, c.if-report-lt-REPORT_NUMBERS.true))
 
-pub returns-in-Accepted : goal.returns-in-Accepted
-returns-in-Accepted c = let a = c.args in
-    check_accepted (lent a.text.now a.sections.now a.section_count a.entries.now a.entry_count) a.index a.report.now c.if-report-lt-REPORT_NUMBERS.false c.value_check.result c.value_check.ensures _ _ _ _ c.in-Accepted.is c.reply.ensures
+pub returns-in-Ok : goal.returns-in-Ok
+returns-in-Ok c = let a = c.args in
+    check_accepted (lent a.text.now a.sections.now a.section_count a.entries.now a.entry_count) a.index a.report.now c.if-report-lt-REPORT_NUMBERS.false c.value_check.result c.value_check.ensures _ _ _ c.in-Ok.is c.reply.ensures
 
-pub returns-in-Refused : goal.returns-in-Refused
-returns-in-Refused c = let a = c.args in
-    check_refused (lent a.text.now a.sections.now a.section_count a.entries.now a.entry_count) a.index a.report.now c.if-report-lt-REPORT_NUMBERS.false c.value_check.result c.value_check.ensures _ _ _ c.in-Refused.is _ _ c.number.ensures c.place.ensures c.reply-in-Refused.ensures
+pub returns-in-Err : goal.returns-in-Err
+returns-in-Err c = let a = c.args in
+    check_refused (lent a.text.now a.sections.now a.section_count a.entries.now a.entry_count) a.index a.report.now c.if-report-lt-REPORT_NUMBERS.false c.value_check.result c.value_check.ensures _ _ _ c.in-Err.is _ _ c.number.ensures c.place.ensures c.reply-in-Err.ensures

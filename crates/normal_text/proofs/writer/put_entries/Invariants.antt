@@ -1,12 +1,10 @@
 -- `put_entries`: the loop keeps `EntriesPut`.
-use Prim.Native.Nat.{◌-◌}
-use Rattle.normal_text.specs.Steps.{entries_at, Linked}
-use Rattle.normal_text.proofs.SectionPuts.{EntriesPut}
+use Rattle.lookup.specs.Decoding.{lent_of}
+use Rattle.normal_text.proofs.SectionPuts.{EntriesPut, left_from}
 use Rattle.normal_text.proofs.writer.put_entries.Given as goal
 
-abbrev pub invariant-loop-i : goal.invariant-loop-i
-invariant-loop-i l =
-    (linked : Linked (entries_at l.text l.entries l.count) 0 l.firsts l.nexts) × EntriesPut l.text l.entries l.count l.section l.firsts l.nexts linked l.initial.out l.at l.i l.end l.out
+abbrev pub invariant-loop-next : goal.invariant-loop-next
+invariant-loop-next l = EntriesPut (lent_of l.table) l.section l.initial.out l.at l.next l.end l.out
 
-abbrev pub decreases-loop-i : goal.decreases-loop-i
-decreases-loop-i l = l.count - l.i
+abbrev pub decreases-loop-next : goal.decreases-loop-next
+decreases-loop-next l = left_from l.table.entry_count l.next
