@@ -9,7 +9,7 @@ mod stdin;
 pub mod tables;
 mod texts;
 
-pub use files::{cases, long_case, text_cases};
+pub use files::{cases, long_case, start_cases};
 use lines::{Cursor, LogicalLine};
 use std::io;
 pub use stdin::{each_case, with_file};
