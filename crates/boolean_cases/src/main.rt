@@ -2,21 +2,43 @@
 #![tactic(auto)]
 
 mod odd;
-mod show;
 mod words;
 
+use listing::text_cases::{Judge, TextCases};
 use std::io;
+use values::Error;
+
+// The truth that each text states.
+#[derive(Clone, Copy)]
+struct Truths;
+
+impl Judge for Truths {
+    type Value = bool;
+
+    type Refusal = Error;
+
+    fn judge(&self, text: &[u8]) -> Result<bool, Error> {
+        values::boolean(text)
+    }
+}
+
+type Cases<'a, P> = TextCases<'a, P, Truths>;
 
 fn main(rt: HostRuntime) -> io::Result<()> {
-    words::accepted(&rt)?;
-    words::upper_case_true(&rt)?;
-    words::upper_case_false(&rt)?;
-    words::with_more_bytes(&rt)?;
-    words::between_blanks(&rt)?;
-    words::pieces(&rt)?;
-    words::longer(&rt)?;
-    words::changed(&rt)?;
-    odd::texts(&rt)?;
-    odd::characters(&rt)?;
-    odd::long_texts(&rt)
+    let cases = TextCases {
+        rt: &rt,
+        word: "boolean",
+        judge: Truths,
+    };
+    words::accepted(&cases)?;
+    words::upper_case_true(&cases)?;
+    words::upper_case_false(&cases)?;
+    words::with_more_bytes(&cases)?;
+    words::between_blanks(&cases)?;
+    words::pieces(&cases)?;
+    words::longer(&cases)?;
+    words::changed(&cases)?;
+    odd::texts(&cases)?;
+    odd::characters(&cases)?;
+    odd::long_texts(&cases)
 }

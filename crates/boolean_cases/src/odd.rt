@@ -1,44 +1,46 @@
 // Texts that are far from the eight words.
-use crate::show::{byte_case, case, long_case, named_case};
+use crate::Cases;
 use std::io;
 
-pub fn texts(rt: &impl Print) -> io::Result<()> {
-    case(rt, b"enabled")?;
-    case(rt, b"disabled")?;
-    case(rt, b"Y")?;
-    case(rt, b"N")?;
-    case(rt, b"yesno")?;
-    case(rt, b"yes no")?;
-    case(rt, b"\"yes\"")?;
-    case(rt, b"-1")?;
-    case(rt, b"+1")?;
-    case(rt, b"1.0")?;
-    case(rt, b"0x1")?;
-    case(rt, b"1s")
+const MILLION: usize = 1000000;
+
+pub fn texts(cases: &Cases<impl Print>) -> io::Result<()> {
+    cases.case(b"enabled")?;
+    cases.case(b"disabled")?;
+    cases.case(b"Y")?;
+    cases.case(b"N")?;
+    cases.case(b"yesno")?;
+    cases.case(b"yes no")?;
+    cases.case(b"\"yes\"")?;
+    cases.case(b"-1")?;
+    cases.case(b"+1")?;
+    cases.case(b"1.0")?;
+    cases.case(b"0x1")?;
+    cases.case(b"1s")
 }
 
 // Bytes that do not print, and characters that look like the words.
-pub fn characters(rt: &impl Print) -> io::Result<()> {
+pub fn characters(cases: &Cases<impl Print>) -> io::Result<()> {
     let none: &[u8] = b"";
-    byte_case(rt, none, 0x00, none)?;
-    byte_case(rt, none, b' ', none)?;
-    byte_case(rt, none, 0xB1, none)?;
-    byte_case(rt, none, 0xFF, none)?;
-    byte_case(rt, none, 0xF9, b"es")?;
-    byte_case(rt, b"n", 0xEF, none)?;
-    byte_case(rt, b"of", 0x00, b"f")?;
-    case(rt, b"\xEF\xBC\x91")?;
-    case(rt, b"\xEF\xBD\x8F\xEF\xBD\x8E")?;
-    case(rt, b"o\xEF\xAC\x80")?;
-    named_case(rt, b"a byte order mark before on", b"\xEF\xBB\xBFon")
+    cases.byte_case(none, 0x00, none)?;
+    cases.byte_case(none, b' ', none)?;
+    cases.byte_case(none, 0xB1, none)?;
+    cases.byte_case(none, 0xFF, none)?;
+    cases.byte_case(none, 0xF9, b"es")?;
+    cases.byte_case(b"n", 0xEF, none)?;
+    cases.byte_case(b"of", 0x00, b"f")?;
+    cases.case(b"\xEF\xBC\x91")?;
+    cases.case(b"\xEF\xBD\x8F\xEF\xBD\x8E")?;
+    cases.case(b"o\xEF\xAC\x80")?;
+    cases.named_case("a byte order mark before on", b"\xEF\xBB\xBFon")
 }
 
 // Runs of a million bytes.
-pub fn long_texts(rt: &impl Print) -> io::Result<()> {
+pub fn long_texts(cases: &Cases<impl Print>) -> io::Result<()> {
     let none: &[u8] = b"";
-    long_case(rt, none, b'1', none)?;
-    long_case(rt, none, b'0', none)?;
-    long_case(rt, b"yes", b' ', none)?;
-    long_case(rt, none, b' ', b"yes")?;
-    long_case(rt, b"fals", b'e', none)
+    cases.long_case(none, b'1', MILLION, none)?;
+    cases.long_case(none, b'0', MILLION, none)?;
+    cases.long_case(b"yes", b' ', MILLION, none)?;
+    cases.long_case(none, b' ', MILLION, b"yes")?;
+    cases.long_case(b"fals", b'e', MILLION, none)
 }

@@ -3,7 +3,6 @@ ghost use Rattle.std.specs.Prelude.{◌≡◌, cond};
 ghost use Rattle.havtsulen.specs.Answers.{ReportsBoolean, ReportsSpan};
 
 use crate::report::{REPORT_NUMBERS, SHORT_REPORT, reply};
-use values::{BooleanAnswer, SpanAnswer};
 
 // 1 for true, 0 for false.
 fn truth_number(truth: bool) -> usize
@@ -23,8 +22,8 @@ pub fn havtsulen_boolean(text: &[u8], report: &mut [usize]) -> usize
         return SHORT_REPORT;
     }
     match values::boolean(text) {
-        BooleanAnswer::Accepted(truth) => reply(0, truth_number(truth), 0, 0, 0, report),
-        BooleanAnswer::Refused(e) => reply(e.number(), e.place(), 0, 0, 0, report),
+        Ok(truth) => reply(0, truth_number(truth), 0, 0, 0, report),
+        Err(e) => reply(e.number(), e.place(), 0, 0, 0, report),
     }
 }
 
@@ -36,7 +35,7 @@ pub fn havtsulen_span(text: &[u8], report: &mut [usize]) -> usize
         return SHORT_REPORT;
     }
     match values::span(text) {
-        SpanAnswer::Accepted(microseconds) => reply(0, microseconds as usize, 0, 0, 0, report),
-        SpanAnswer::Refused(e) => reply(e.number(), e.place(), 0, 0, 0, report),
+        Ok(microseconds) => reply(0, microseconds as usize, 0, 0, 0, report),
+        Err(e) => reply(e.number(), e.place(), 0, 0, 0, report),
     }
 }

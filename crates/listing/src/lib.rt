@@ -7,6 +7,7 @@ pub mod notation;
 pub mod show;
 mod stdin;
 pub mod tables;
+pub mod text_cases;
 mod texts;
 
 pub use files::{cases, long_case, start_cases};

@@ -5,35 +5,58 @@ mod forms;
 mod limits;
 mod long_runs;
 mod places;
-mod show;
 mod spans;
+mod units;
 
+use listing::text_cases::{Judge, TextCases};
 use std::io;
+use values::Error;
+
+// How many microseconds each text states.
+#[derive(Clone, Copy)]
+struct Microseconds;
+
+impl Judge for Microseconds {
+    type Value = u64;
+
+    type Refusal = Error;
+
+    fn judge(&self, text: &[u8]) -> Result<u64, Error> {
+        values::span(text)
+    }
+}
+
+type Cases<'a, P> = TextCases<'a, P, Microseconds>;
 
 fn main(rt: HostRuntime) -> io::Result<()> {
-    spans::bench(&rt)?;
-    spans::units(&rt)?;
-    spans::parts(&rt)?;
-    spans::numbers(&rt)?;
-    spans::blanks(&rt)?;
-    limits::units(&rt)?;
-    limits::digits(&rt)?;
-    limits::multiples(&rt)?;
-    limits::sums(&rt)?;
-    limits::too_large(&rt)?;
-    forms::short_names(&rt)?;
-    forms::long_names(&rt)?;
-    forms::no_text(&rt)?;
-    forms::bare_numbers(&rt)?;
-    forms::bare_units(&rt)?;
-    forms::notations(&rt)?;
-    forms::large_numbers(&rt)?;
-    forms::characters(&rt)?;
-    places::blanks_and_digits(&rt)?;
-    places::letters(&rt)?;
-    places::control_bytes(&rt)?;
-    places::signs(&rt)?;
-    places::high_bytes(&rt)?;
-    long_runs::digits(&rt)?;
-    long_runs::blanks_and_letters(&rt)
+    let cases = TextCases {
+        rt: &rt,
+        word: "span",
+        judge: Microseconds,
+    };
+    spans::bench(&cases)?;
+    spans::units(&cases)?;
+    spans::parts(&cases)?;
+    spans::numbers(&cases)?;
+    spans::blanks(&cases)?;
+    limits::units(&cases)?;
+    limits::digits(&cases)?;
+    limits::multiples(&cases)?;
+    limits::sums(&cases)?;
+    limits::too_large(&cases)?;
+    forms::short_names(&cases)?;
+    forms::long_names(&cases)?;
+    forms::no_text(&cases)?;
+    forms::bare_numbers(&cases)?;
+    forms::bare_units(&cases)?;
+    forms::notations(&cases)?;
+    forms::large_numbers(&cases)?;
+    forms::characters(&cases)?;
+    places::blanks_and_digits(&cases)?;
+    places::letters(&cases)?;
+    places::control_bytes(&cases)?;
+    places::signs(&cases)?;
+    places::high_bytes(&cases)?;
+    long_runs::digits(&cases)?;
+    long_runs::blanks_and_letters(&cases)
 }

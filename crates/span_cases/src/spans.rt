@@ -1,68 +1,62 @@
 // Spans, and what stands in them.
-use crate::show::{case, named_case, unit_cases};
+use crate::Cases;
+use crate::units::unit_cases;
 use std::io;
 
 // The bench cases, and the man page's bare number.
-pub fn bench(rt: &impl Print) -> io::Result<()> {
-    case(rt, b"2min 200ms")?;
-    case(rt, b"18446744073710")?;
-    case(rt, b"18446744073709")?;
-    case(rt, b"5 20")?;
-    case(rt, b"50")
+pub fn bench(cases: &Cases<impl Print>) -> io::Result<()> {
+    cases.case(b"2min 200ms")?;
+    cases.case(b"18446744073710")?;
+    cases.case(b"18446744073709")?;
+    cases.case(b"5 20")?;
+    cases.case(b"50")
 }
 
-pub fn units(rt: &impl Print) -> io::Result<()> {
-    unit_cases(rt, b"us")?;
-    unit_cases(rt, b"ms")?;
-    unit_cases(rt, b"s")?;
-    unit_cases(rt, b"min")?;
-    unit_cases(rt, b"h")?;
-    unit_cases(rt, b"d")?;
-    unit_cases(rt, b"w")
+pub fn units(cases: &Cases<impl Print>) -> io::Result<()> {
+    unit_cases(cases, b"us")?;
+    unit_cases(cases, b"ms")?;
+    unit_cases(cases, b"s")?;
+    unit_cases(cases, b"min")?;
+    unit_cases(cases, b"h")?;
+    unit_cases(cases, b"d")?;
+    unit_cases(cases, b"w")
 }
 
 // Several parts, in any order.
-pub fn parts(rt: &impl Print) -> io::Result<()> {
-    case(rt, b"1w 2d 3h 4min 5s 6ms 7us")?;
-    case(rt, b"1w2d3h4min5s6ms7us")?;
-    case(rt, b"7us 6ms 5s 4min 3h 2d 1w")?;
-    case(rt, b"7us6ms5s4min3h2d1w")?;
-    case(rt, b"1s 1s")?;
-    case(rt, b"1s1s")?;
-    case(rt, b"1us1w")?;
-    case(rt, b"1min1ms")?;
-    case(rt, b"1ms1min1us")?;
-    case(rt, b"1h 30min")?;
-    case(rt, b"1d 24h 1440min")?;
-    case(
-        rt,
-        b"1s1s1s1s1s1s1s1s1s1s1s1s1s1s1s1s1s1s1s1s1s1s1s1s1s1s1s1s1s1s1s1s",
-    )
+pub fn parts(cases: &Cases<impl Print>) -> io::Result<()> {
+    cases.case(b"1w 2d 3h 4min 5s 6ms 7us")?;
+    cases.case(b"1w2d3h4min5s6ms7us")?;
+    cases.case(b"7us 6ms 5s 4min 3h 2d 1w")?;
+    cases.case(b"7us6ms5s4min3h2d1w")?;
+    cases.case(b"1s 1s")?;
+    cases.case(b"1s1s")?;
+    cases.case(b"1us1w")?;
+    cases.case(b"1min1ms")?;
+    cases.case(b"1ms1min1us")?;
+    cases.case(b"1h 30min")?;
+    cases.case(b"1d 24h 1440min")?;
+    cases.case(b"1s1s1s1s1s1s1s1s1s1s1s1s1s1s1s1s1s1s1s1s1s1s1s1s1s1s1s1s1s1s1s1s")
 }
 
-pub fn numbers(rt: &impl Print) -> io::Result<()> {
-    case(rt, b"0")?;
-    case(rt, b"00")?;
-    case(rt, b"0w 0d 0h 0min 0s 0ms 0us")?;
-    case(rt, b"7")?;
-    case(rt, b"007")?;
-    case(rt, b"86400")?;
-    case(rt, b"1234567890")?;
-    case(rt, b"000000000000000000000000000001s")?;
-    case(rt, b"00000000000000000000018446744073709551615us")?;
-    case(rt, b"00000000000000000000018446744073709551616us")
+pub fn numbers(cases: &Cases<impl Print>) -> io::Result<()> {
+    cases.case(b"0")?;
+    cases.case(b"00")?;
+    cases.case(b"0w 0d 0h 0min 0s 0ms 0us")?;
+    cases.case(b"7")?;
+    cases.case(b"007")?;
+    cases.case(b"86400")?;
+    cases.case(b"1234567890")?;
+    cases.case(b"000000000000000000000000000001s")?;
+    cases.case(b"00000000000000000000018446744073709551615us")?;
+    cases.case(b"00000000000000000000018446744073709551616us")
 }
 
-pub fn blanks(rt: &impl Print) -> io::Result<()> {
-    case(rt, b"   5   ")?;
-    case(rt, b"5   s")?;
-    case(rt, b"1s   2s")?;
-    case(rt, b"1 s2 s")?;
-    case(rt, b"  1  s  2  min  ")?;
-    named_case(rt, b"a tab and a blank on both sides of 5", b"\t 5 \t")?;
-    named_case(
-        rt,
-        b"tabs and blanks in each place",
-        b" \t1\t \tmin \t 2 \ts\t ",
-    )
+pub fn blanks(cases: &Cases<impl Print>) -> io::Result<()> {
+    cases.case(b"   5   ")?;
+    cases.case(b"5   s")?;
+    cases.case(b"1s   2s")?;
+    cases.case(b"1 s2 s")?;
+    cases.case(b"  1  s  2  min  ")?;
+    cases.named_case("a tab and a blank on both sides of 5", b"\t 5 \t")?;
+    cases.named_case("tabs and blanks in each place", b" \t1\t \tmin \t 2 \ts\t ")
 }

@@ -1,10 +1,7 @@
--- numbers, and sums that may be too large
-pub mod Amounts
-pub mod Scan
+-- numbers, the names of units, and words
 pub mod Numbers
--- words, and the names of units
-pub mod Words
 pub mod Units
+pub mod Words
 -- runs and tokens, read from the start
 pub mod Longest
 pub mod Classes

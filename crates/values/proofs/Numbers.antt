@@ -1,17 +1,17 @@
--- The number that digits write, with one digit more at the end; and the loop that reads it.
-use mathlib.Core.Path.{◌≡◌, refl, sym, ap, subst, ◌∙◌}
-use Prim.Native.Nat.{ℕ, suc, ◌+◌, ◌-◌, ◌*◌, ◌<◌}
+-- The number that digits write, with one digit more at the end.
+use mathlib.Core.Path.{◌≡◌, refl, sym, ap, ◌∙◌}
+use Prim.Native.Nat.{ℕ, zero, suc, ◌+◌, ◌-◌, ◌*◌, ◌≤◌, ◌<◌}
 use native.Mathlib.Omega.{arith}
 use native.Mathlib.Nat.{mul_assoc, mul_comm}
 use mathlib.Core.Bool.{true}
-use mathlib.Core.List.{[], ◌∷◌, ◌++◌}
-use lib.ListN.{length, take, get_or, length-append}
+use mathlib.Core.List.{[], ◌∷◌, ◌++◌, append-nil, append_assoc}
+use native.Mathlib.Numerals.{add-one}
+use lib.ListN.{length, take, drop, get_or, length-append, take-append-drop}
+use lib.Seq.{take-suc}
 use Rattle.lines.specs.Bytes.{Bytes, digit, all}
-use Rattle.values.specs.Spans.{numeral, tens, decimal, longest}
-use Rattle.values.specs.Steps.{Stands, NumberAt}
-use Rattle.values.specs.declared.amount.Amount.{Amount}
-use Rattle.values.specs.declared.amount.Amount.TheVariants.{Exact}
-use Rattle.values.proofs.Scan.{Passed, passed_start, passed_more, take_more, length_found}
+use Rattle.lines.proofs.Bools.{and_left, and_right}
+use Rattle.lines.proofs.ByteClasses.{digit_low}
+use Rattle.values.specs.Spans.{numeral, tens, decimal}
 
 -- digits that are there
 pub some_numeral : (n : Bytes) → 0 < length n → all digit n ≡ true → numeral n ≡ true
@@ -36,30 +36,27 @@ decimal_snoc (x ∷ a) b =
     let n : length (a ++ b ∷ []) ≡ suc (length a) = length-append a (b ∷ []) ∙ omega arith in
     rw (n, decimal_snoc a b) (omega (arith, ten_out (x - 0x30) (tens (length a))))
 
--- the first i bytes are digits, and the amount stands for their number
-pub record Counted (t : Bytes) (a : Amount) (i : ℕ) : Type 0 where
-  pub passed : Passed digit t i
-  pub stands : Stands a (decimal (take i t))
+-- one digit more of a text
+pub decimal_more : (t : Bytes) (i : ℕ) → i < length t → decimal (take (i + 1) t) ≡ decimal (take i t) * 10 + (get_or t i 0 - 0x30)
+decimal_more t i h = rw (add-one, take-suc t i 0 h) (decimal_snoc (take i t) (get_or t i 0))
 
-pub counted_start : (t : Bytes) → Counted t (Exact 0) 0
+-- the first digits write no larger a number
+decimal_front : (a r : Bytes) → decimal a ≤ decimal (a ++ r)
+decimal_front a [] = rw append-nil (omega arith)
+decimal_front a (b ∷ r) =
+    let e : decimal (a ++ b ∷ []) ≤ decimal (a ++ b ∷ r) = rw append_assoc at (decimal_front (a ++ b ∷ []) r) in
+    omega (arith, e, decimal_snoc a b)
+
+pub decimal-take : (t : Bytes) (i : ℕ) → decimal (take i t) ≤ decimal t
+decimal-take t i = rw (take-append-drop i t) at (decimal_front (take i t) (drop i t))
+
+-- a byte among digits is one
+pub digit-at : (t : Bytes) (i : ℕ) → all digit t ≡ true → i < length t → 0x30 ≤ get_or t i 0
+unfolding all
+digit-at [] i h l = absurd (omega arith)
+digit-at (b ∷ t) zero h l = digit_low b (and_left (digit b) (all digit t) h)
+digit-at (b ∷ t) (suc i) h l = digit-at t i (and_right (digit b) (all digit t) h) (omega arith)
+
+pub decimal_nil : decimal [] ≡ 0
 unfolding decimal
-counted_start t = record { passed = passed_start digit t; stands = refl }
-
-pub counted_more : (t : Bytes) (a r : Amount) (i d : ℕ) → Counted t a i → i < length t → digit (get_or t i 0) ≡ true
-    → d ≡ get_or t i 0 - 0x30 → ((v : ℕ) → Stands a v → Stands r (v * 10 + d)) → Counted t r (i + 1)
-counted_more t a r i d c h e k pushed =
-    record {
-      passed = passed_more digit t i c.passed h e;
-      stands = subst (Stands r)
-          (ap (λ (n : ℕ). decimal (take i t) * 10 + n) k
-          ∙ sym (ap decimal (take_more t i h) ∙ decimal_snoc (take i t) (get_or t i 0)))
-          (pushed (decimal (take i t)) c.stands);
-    }
-
-pub counted_found : (t : Bytes) (a : Amount) (i : ℕ) → Counted t a i → longest digit t ≡ take i t
-    → NumberAt t (record { amount = a; digits = i })
-counted_found t a i c e =
-    record {
-      digits_are = sym (length_found digit t i c.passed e);
-      amount_is = subst (λ (l : Bytes). Stands a (decimal l)) (sym e) c.stands;
-    }
+decimal_nil = refl

@@ -1,17 +1,17 @@
 -- The runs of a text, taken one by one from its start. A run of a class is the longest one (`longest`), and
 -- what stands behind it has its own runs; a run of blanks is no token.
 use mathlib.Core.Path.{◌≡◌, refl, sym, ap, fun_ext, ◌∙◌}
-use Prim.Native.Nat.{ℕ, ◌+◌, ◌-◌, ◌<◌}
+use Prim.Native.Nat.{ℕ, ◌<◌}
 use native.Mathlib.Omega.{arith}
 use mathlib.Core.Bool.{Bool, true, false}
 use mathlib.Core.List.{List, [], ◌∷◌}
-use lib.ListN.{length, drop, length-drop}
+use lib.ListN.{length, drop}
 use Rattle.lines.specs.Bytes.{Bytes, blank, all}
 use Rattle.lines.specs.Trim.{trim_start}
 use Rattle.lines.proofs.Bools.{by_cases, is_false}
 use Rattle.lines.proofs.Trimming.{trim_start-blank, trim_start_nonblank, trim_start_nil, length-trim_start}
 use Rattle.values.specs.Spans.{alike, lengthen, runs, tokens, longest}
-use Rattle.values.proofs.Longest.{longest-all, longest-inside, longest_more}
+use Rattle.values.proofs.Longest.{longest-all, longest_more}
 use Rattle.values.proofs.Classes.{Class, alike_same, blank_class}
 
 -- ---- runs
@@ -102,12 +102,6 @@ first_token b bs h =
       others = tokens f.others;
       view = ap tokens f.view ∙ token_kept b f.behind f.others h;
     }
-
--- as many bytes as there are blanks
-pub trimmed_away : (t : Bytes) → length (trim_start t) + length (longest blank t) ≡ length t
-trimmed_away t =
-    let e : length (trim_start t) ≡ length t - length (longest blank t) = ap length (trim_start-drop t) ∙ length-drop (length (longest blank t)) t in
-    omega (arith, e, longest-inside blank t)
 
 -- the first byte of a text that starts with no blank
 pub first_nonblank : (b : ℕ) (bs : Bytes) → trim_start (b ∷ bs) ≡ b ∷ bs → blank b ≡ false

@@ -1,19 +1,17 @@
 -- The loop over the parts of a text: the parts read so far stand in front of the parts of what is left, and
 -- the amount stands for their sum.
 use mathlib.Core.Path.{◌≡◌, refl, sym, ap, subst, ◌∙◌}
-use Prim.Native.Nat.{ℕ, ◌+◌, ◌*◌, ◌≤◌, ◌<◌}
+use Prim.Native.Nat.{ℕ, ◌+◌, ◌*◌, ◌<◌}
 use native.Mathlib.Omega.{arith}
 use mathlib.Core.Option.{Option, none, some}
 use mathlib.Core.List.{List, [], ◌∷◌, ◌++◌, append_assoc, append-nil}
-use lib.ListN.{length, drop, length-drop, drop_of_length-le}
-use lib.Seq.{drop-drop}
+use lib.ListN.{length, drop}
 use Rattle.lines.specs.Bytes.{Bytes}
 use Rattle.lines.specs.Trim.{trim_start}
 use Rattle.lines.proofs.Bools.{clash}
 use Rattle.values.specs.Spans.{Part, runs, tokens, parts_of, with_part, microseconds}
 use Rattle.values.specs.Steps.{Stands, first_part, PartFound, Totalled}
-use Rattle.values.specs.declared.amount.Amount.{Amount}
-use Rattle.values.specs.declared.amount.Amount.TheVariants.{Exact}
+use Rattle.std.specs.Prelude.{Option as CodeOption, Some}
 use Rattle.values.proofs.Runs.{some_token}
 use Rattle.values.proofs.Verdict.{fault_kept}
 
@@ -37,19 +35,17 @@ unfolding microseconds
 microseconds_snoc [] p = omega arith
 microseconds_snoc (q ∷ ps) p = rw (microseconds_snoc ps p) (omega arith)
 
--- the first i bytes are read
-pub record Walked (t : Bytes) (a : Amount) (i : ℕ) : Type 0 where
-  pub inside : i ≤ length t
-  pub no_blank : trim_start (drop i t) ≡ drop i t
+-- what is left to read is r
+pub record Walked (t : Bytes) (a : CodeOption ℕ) (r : Bytes) : Type 0 where
+  pub no_blank : trim_start r ≡ r
   pub list : List Part
-  pub view : parts_of (tokens (runs t)) ≡ ahead list (parts_of (tokens (runs (drop i t))))
+  pub view : parts_of (tokens (runs t)) ≡ ahead list (parts_of (tokens (runs r)))
   pub total : Stands a (microseconds list)
 
-pub walk_start : (t : Bytes) → trim_start t ≡ t → Walked t (Exact 0) 0
+pub walk_start : (t : Bytes) → trim_start t ≡ t → Walked t (Some 0) t
 unfolding microseconds
 walk_start t h =
     record {
-      inside = omega arith;
       no_blank = h;
       list = [];
       view = sym (ahead_nil (parts_of (tokens (runs t))));
@@ -69,42 +65,26 @@ first_none [] l h = absurd (omega arith)
 first_none (n ∷ []) l h = refl
 first_none (n ∷ u ∷ ts) l h = rw h
 
-pub walk_more : (t : Bytes) (a b r : Amount) (i n : ℕ) → Walked t a i → PartFound (drop i t) b n
-    → ((v w : ℕ) → Stands a v → Stands b w → Stands r (v + w)) → Walked t r (i + n)
-walk_more t a b r i n w f added =
-    let rest : drop n (drop i t) ≡ drop (i + n) t = drop-drop n i t in
+pub walk_more : (t : Bytes) (a b c : CodeOption ℕ) (r rest : Bytes) → Walked t a r → PartFound r b rest
+    → ((v w : ℕ) → Stands a v → Stands b w → Stands c (v + w)) → Walked t c rest
+walk_more t a b c r rest w f added =
     record {
-      inside = omega (arith, w.inside, f.inside, length-drop i t);
-      no_blank = subst (λ (l : Bytes). trim_start l ≡ l) rest f.no_blank;
+      no_blank = f.no_blank;
       list = w.list ++ f.first ∷ [];
       view = w.view
-          ∙ ap (ahead w.list) (first_some (tokens (runs (drop i t))) f.first f.made ∙ ap (λ (ts : List Bytes). with_part (some f.first) (parts_of ts)) f.rest)
-          ∙ ahead_part w.list f.first (parts_of (tokens (runs (drop n (drop i t)))))
-          ∙ ap (λ (l : Bytes). ahead (w.list ++ f.first ∷ []) (parts_of (tokens (runs l)))) rest;
-      total = subst (Stands r) (sym (microseconds_snoc w.list f.first))
+          ∙ ap (ahead w.list) (first_some (tokens (runs r)) f.first f.made ∙ ap (λ (ts : List Bytes). with_part (some f.first) (parts_of ts)) f.others)
+          ∙ ahead_part w.list f.first (parts_of (tokens (runs rest)));
+      total = subst (Stands c) (sym (microseconds_snoc w.list f.first))
           (added (microseconds w.list) (f.first.number * f.first.scale) w.total f.adds);
     }
 
 -- the next two tokens make no part, and so the text has not the form
-pub walk_wrong : (t : Bytes) (a : Amount) (i : ℕ) → Walked t a i → i < length t → first_part (tokens (runs (drop i t))) ≡ none
+pub walk_wrong : (t : Bytes) (a : CodeOption ℕ) (r : Bytes) → Walked t a r → 0 < length r → first_part (tokens (runs r)) ≡ none
     → parts_of (tokens (runs t)) ≡ none
 unfolding ahead
-walk_wrong t a i w l h =
-    let s : 0 < length (drop i t) = omega (arith, length-drop i t) in
-    w.view ∙ ap (ahead w.list) (first_none (tokens (runs (drop i t))) (some_token (drop i t) s w.no_blank) h)
+walk_wrong t a r w l h = w.view ∙ ap (ahead w.list) (first_none (tokens (runs r)) (some_token r l w.no_blank) h)
 
-nothing : parts_of (tokens (runs [])) ≡ some []
-unfolding parts_of tokens runs
-nothing = refl
-
-pub walk_done : (t : Bytes) (a : Amount) (i : ℕ) → Walked t a i → length t ≤ i → Totalled (parts_of (tokens (runs t))) a
-unfolding ahead
-walk_done t a i w h =
-    record {
-      list = w.list;
-      all_parts = w.view
-          ∙ ap (λ (l : Bytes). ahead w.list (parts_of (tokens (runs l)))) (drop_of_length-le t h)
-          ∙ ap (ahead w.list) nothing
-          ∙ ap some (append-nil w.list);
-      total = w.total;
-    }
+pub walk_done : (t : Bytes) (a : CodeOption ℕ) (r : Bytes) → Walked t a r → length r ≡ 0 → Totalled (parts_of (tokens (runs t))) a
+unfolding ahead parts_of tokens runs
+walk_done t a [] w h = record { list = w.list; all_parts = w.view ∙ ap some (append-nil w.list); total = w.total }
+walk_done t a (b ∷ r) w h = absurd (omega arith)

@@ -1,21 +1,25 @@
 -- The answer for a span from what was found in its trimmed text: nothing, digits alone, or parts.
 use mathlib.Core.Path.{◌≡◌, refl, sym, ap, ◌∙◌}
-use Prim.Native.Nat.{ℕ, ◌*◌, ◌<◌}
+use Prim.Native.Nat.{ℕ, ◌*◌, ◌≤◌, ◌<◌}
 use native.Mathlib.Omega.{arith}
 use native.Mathlib.Nat.{add-zero}
 use mathlib.Core.Bool.{true, false}
 use mathlib.Core.Option.{Option, none, some}
 use mathlib.Core.List.{List, [], ◌∷◌}
-use lib.ListN.{length}
+use lib.ListN.{length, length-append}
+use borrow.Author.Tests.{le-leb, lt-leb}
 use Rattle.lines.specs.Bytes.{Bytes, digit, all}
 use Rattle.lines.specs.Trim.{trim_start, trimmed}
 use Rattle.lines.specs.Answers.{refused}
 use Rattle.lines.proofs.Bools.{is_false, clash}
 use Rattle.lines.proofs.Trimming.{trimmed_start}
-use Rattle.values.specs.Spans.{decimal, second, runs, tokens, Part, with_part, parts_of, one_or_more, span_parts, microseconds, sized, span_of, limited, longest}
-use Rattle.values.specs.Steps.{Totalled}
-use Rattle.values.specs.declared.amount.Amount.{Amount}
-use Rattle.values.proofs.Longest.{longest-all, longest_whole, longest_of_all}
+use Rattle.values.specs.Spans.{decimal, second, runs, tokens, Part, with_part, parts_of, one_or_more, span_parts, microseconds, sized, span_of, largest_span, limited}
+use Rattle.values.specs.Answers.{span_means}
+use Rattle.values.specs.Steps.{Stands, Totalled}
+use Rattle.values.specs.declared.error.Error.TheVariants.{SpanTooLarge}
+use Rattle.std.specs.Prelude.{Option as CodeOption, Some, None, MatchOption, ⊤}
+use Rattle.std.specs.Option.{ok_or}
+use Rattle.values.proofs.Longest.{Run, longest_whole, longest_of_all}
 use Rattle.values.proofs.Runs.{some_token}
 
 -- ---- the form of a trimmed text
@@ -72,30 +76,34 @@ span_of_at t s e = ap (λ (l : Bytes). sized (span_parts l)) (sym e)
 pub span_empty : (t s : Bytes) → s ≡ trimmed t → length s ≡ 0 → span_of t ≡ refused 31 0
 span_empty t s e h = span_of_at t s e ∙ ap sized (parts_empty s h) ∙ sized_none
 
-pub span_seconds : (t s : Bytes) → s ≡ trimmed t → 0 < length s → length (longest digit s) ≡ length s
-    → span_of t ≡ limited (decimal (longest digit s) * second)
-span_seconds t s e l h =
-    let w : longest digit s ≡ s = longest_whole digit s h in
-    span_of_at t s e
-    ∙ ap sized (parts_digits s l (ap (all digit) (sym w) ∙ longest-all digit s))
-    ∙ sized_some (record { number = decimal s; scale = second } ∷ [])
-    ∙ ap limited (one_part (decimal s) second)
-    ∙ ap (λ (d : Bytes). limited (decimal d * second)) (sym w)
+-- a trimmed text with a byte; the digits at its start, and what stands behind them
+module _ (t s d r : Bytes) (trim : s ≡ trimmed t) (some_byte : 0 < length s) (run : Run digit s d r) where
+  pub span_seconds : length r ≡ 0 → span_of t ≡ limited (decimal d * second)
+  span_seconds h =
+      let w : d ≡ s = run.front_is ∙ longest_whole digit s (omega (arith, ap length run.front_is, ap length run.whole, length-append d r)) in
+      span_of_at t s trim
+      ∙ ap sized (parts_digits s some_byte (ap (all digit) (sym w) ∙ run.pass))
+      ∙ sized_some (record { number = decimal s; scale = second } ∷ [])
+      ∙ ap limited (one_part (decimal s) second)
+      ∙ ap (λ (l : Bytes). limited (decimal l * second)) (sym w)
 
-span_units : (t s : Bytes) → s ≡ trimmed t → 0 < length s → (length (longest digit s) ≡ length s → ⊥)
-    → span_of t ≡ sized (parts_of (tokens (runs s)))
-span_units t s e l h =
-    span_of_at t s e
-    ∙ ap sized (parts_units s (is_false (all digit s) (λ y. h (ap length (longest_of_all digit s y))))
-    (some_token s l (ap trim_start e ∙ trimmed_start t ∙ sym e)))
+  span_units : 0 < length r → span_of t ≡ sized (parts_of (tokens (runs s)))
+  span_units h =
+      let e : all digit s ≡ true → length d ≡ length s = λ y. ap length (run.front_is ∙ longest_of_all digit s y) in
+      span_of_at t s trim
+      ∙ ap sized (parts_units s (is_false (all digit s) (λ y. absurd (omega (arith, e y, ap length run.whole, length-append d r))))
+      (some_token s some_byte (ap trim_start trim ∙ trimmed_start t ∙ sym trim)))
 
-pub span_total : (t s : Bytes) (a : Amount) → s ≡ trimmed t → 0 < length s → (length (longest digit s) ≡ length s → ⊥)
-    → (p : Totalled (parts_of (tokens (runs s))) a) → span_of t ≡ limited (microseconds p.list)
-span_total t s a e l h p = span_units t s e l h ∙ ap sized p.all_parts ∙ sized_some p.list
+  pub span_total : (a : CodeOption ℕ) → 0 < length r → (p : Totalled (parts_of (tokens (runs s))) a) → span_of t ≡ limited (microseconds p.list)
+  span_total a h p = span_units h ∙ ap sized p.all_parts ∙ sized_some p.list
 
-pub span_wrong : (t s : Bytes) → s ≡ trimmed t → 0 < length s → (length (longest digit s) ≡ length s → ⊥)
-    → parts_of (tokens (runs s)) ≡ none → span_of t ≡ refused 31 0
-span_wrong t s e l h p = span_units t s e l h ∙ ap sized p ∙ sized_none
+  pub span_wrong : 0 < length r → parts_of (tokens (runs s)) ≡ none → span_of t ≡ refused 31 0
+  span_wrong h p = span_units h ∙ ap sized p ∙ sized_none
+
+-- the answer for an amount, once the form is right
+pub judged : (a : CodeOption ℕ) (v : ℕ) → MatchOption a ⊤ (λ n. n ≤ largest_span) → Stands a v → span_means (ok_or a SpanTooLarge) ≡ limited v
+judged (Some n) v f h = rw (← h, le-leb n largest_span f)
+judged None v f h = rw (lt-leb v largest_span h)
 
 -- ---- the answer by the form alone
 

@@ -1,30 +1,36 @@
--- A text compared with one word after the other: a step of `among` and of `scale_in`, where a call of `same` has
--- answered and a branch was taken on the answer.
-use mathlib.Core.Path.{◌≡◌, sym, ◌∙◌}
-use mathlib.Core.Bool.{Bool, true, false, ◌||◌}
-use mathlib.Core.Option.{some}
-use mathlib.Core.List.{List, ◌∷◌}
+-- A text that is none of the words that a `match` names.
+use mathlib.Core.Path.{◌≡◌, refl, ap, ◌∙◌}
+use Prim.Native.Nat.{ℕ}
+use mathlib.Core.Bool.{false}
+use mathlib.Core.Option.{none}
+use mathlib.Core.List.{List, [], ◌∷◌}
+use lib.ListN.{length, get_or}
 use Rattle.lines.specs.Bytes.{Bytes, equal}
+use Rattle.lines.specs.Laws.{All}
+use Rattle.lines.proofs.Bools.{is_false, equal_eq}
+use Rattle.values.specs.Booleans.{among, true_words, false_words, boolean_of}
+use Rattle.lines.specs.Answers.{refused}
 use Rattle.values.specs.Spans.{TimeUnit, scale_in}
-use Rattle.values.proofs.Units.{scale_cons}
+use Rattle.values.proofs.Units.{scale_cons, scale_nil}
 
--- ---- among, which is a chain of `||`; `search` finds the answers and the branches
+-- the text has another length, or another byte somewhere
+abbrev pub Differs : Bytes → Bytes → Type 0
+Differs t w = length t ≡ length w → ((k : ℕ) → get_or t k 0 ≡ get_or w k 0) → ⊥
 
-pub or_hit : (same a b : Bool) → same ≡ a → same ≡ true → true ≡ (a || b)
-or_hit same a b e taken = rw (sym e ∙ taken)
+differs : (t w : Bytes) → Differs t w → equal t w ≡ false
+differs t w d = is_false (equal t w) (λ e. let s = equal_eq t w e in d (ap length s) (λ k. ap (λ (l : Bytes). get_or l k 0) s))
 
-pub or_miss : (same a b r : Bool) → same ≡ a → same ≡ false → r ≡ b → r ≡ (a || b)
-or_miss same a b r e left rest = rw (sym e ∙ left) rest
+-- none of the words
+pub among_none : (t : Bytes) (ws : List Bytes) → All (Differs t) ws → among ws t ≡ false
+among_none t [] d = refl
+among_none t (w ∷ ws) d = rw (differs t w d.0) (among_none t ws d.1)
 
-pub or_last : (a r : Bool) → r ≡ a → r ≡ (a || false)
-or_last true r e = e
-or_last false r e = e
+-- the name of none of the units
+pub scale_none : (t : Bytes) (us : List TimeUnit) → All (λ (u : TimeUnit). Differs t u.name) us → scale_in us t ≡ none
+scale_none t [] d = scale_nil t
+scale_none t (u ∷ us) d = scale_cons u us t ∙ rw (differs t u.name d.0) (scale_none t us d.1)
 
--- ---- scale_in
-
-module _ {same : Bool} (u : TimeUnit) (us : List TimeUnit) (n : Bytes) where
-  pub scale_hit : same ≡ equal n u.name → same ≡ true → scale_in (u ∷ us) n ≡ some u.scale
-  scale_hit e taken = scale_cons u us n ∙ rw (sym e ∙ taken)
-
-  pub scale_miss : same ≡ equal n u.name → same ≡ false → scale_in (u ∷ us) n ≡ scale_in us n
-  scale_miss e left = scale_cons u us n ∙ rw (sym e ∙ left)
+-- neither a word for true nor one for false
+pub neither : (t : Bytes) → All (Differs t) true_words → All (Differs t) false_words → boolean_of t ≡ refused 30 0
+unfolding boolean_of
+neither t d e = rw (among_none t true_words d, among_none t false_words e)

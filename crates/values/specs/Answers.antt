@@ -1,12 +1,8 @@
 -- What the answers mean in the rules.
-use Rattle.std.specs.Prelude.{ℕ, Bool}
+use Rattle.std.specs.Prelude.{ℕ, Bool, Result, Ok, Err}
 use Rattle.lines.specs.Answers.{Outcome, accepted, refused}
 use Rattle.values.specs.declared.error.Error.{Error}
 use Rattle.values.specs.declared.error.Error.TheVariants.{NoBoolean, SpanForm, SpanTooLarge}
-use Rattle.values.specs.declared.booleans.BooleanAnswer.{BooleanAnswer}
-use Rattle.values.specs.declared.booleans.BooleanAnswer.TheVariants.{Accepted as BooleanAccepted, Refused as BooleanRefused}
-use Rattle.values.specs.declared.spans.SpanAnswer.{SpanAnswer}
-use Rattle.values.specs.declared.spans.SpanAnswer.TheVariants.{Accepted as SpanAccepted, Refused as SpanRefused}
 
 -- the refusals 30 to 32: number
 abbrev pub number_of : Error → ℕ
@@ -25,11 +21,11 @@ abbrev pub error_means : {A : Type 0} → Error → Outcome A
 error_means e = refused (number_of e) (place_of e)
 
 -- an answer about a boolean: its truth, or the refusal
-abbrev pub boolean_means : BooleanAnswer → Outcome Bool
-boolean_means (BooleanAccepted b) = accepted b
-boolean_means (BooleanRefused e) = error_means e
+abbrev pub boolean_means : Result Bool Error → Outcome Bool
+boolean_means (Ok b) = accepted b
+boolean_means (Err e) = error_means e
 
 -- an answer about a span: its microseconds, or the refusal
-abbrev pub span_means : SpanAnswer → Outcome ℕ
-span_means (SpanAccepted n) = accepted n
-span_means (SpanRefused e) = error_means e
+abbrev pub span_means : Result ℕ Error → Outcome ℕ
+span_means (Ok n) = accepted n
+span_means (Err e) = error_means e

@@ -2,7 +2,9 @@
 ghost use Rattle.std.specs.Prelude.{◌≡◌};
 ghost use Rattle.values.specs.Answers.{number_of, place_of};
 
-#[derive(Clone, Copy)]
+use std::fmt;
+
+#[derive(Clone, Copy, Debug, PartialEq, Eq)]
 pub enum Error {
     NoBoolean,
     SpanForm,
@@ -26,9 +28,16 @@ impl Error {
         ensures { result ≡ place_of self }
     {
         match self {
-            Error::NoBoolean => 0,
-            Error::SpanForm => 0,
-            Error::SpanTooLarge => 0,
+            Error::NoBoolean | Error::SpanForm | Error::SpanTooLarge => 0,
         }
     }
 }
+
+// As the programs print it: `refused N at P`.
+impl fmt::Display for Error {
+    fn fmt<W: fmt::Write>(&self, f: &mut fmt::Formatter<W>) -> fmt::Result {
+        write!(f, "refused {} at {}", self.number(), self.place())
+    }
+}
+
+impl std::error::Error for Error {}

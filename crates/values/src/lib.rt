@@ -1,11 +1,10 @@
 // Values of settings: booleans and time spans.
 #![tactic(auto)]
 
-mod amount;
 mod booleans;
 mod error;
 mod spans;
 
-pub use booleans::{BooleanAnswer, boolean};
+pub use booleans::boolean;
 pub use error::Error;
-pub use spans::{SpanAnswer, span};
+pub use spans::span;

@@ -7,10 +7,10 @@ pub returns-then-report-lt-REPORT_NUMBERS : goal.returns-then-report-lt-REPORT_N
 returns-then-report-lt-REPORT_NUMBERS c = let a = c.args in
     span_short a.text.now a.report.now (omega (arith, c.if-report-lt-REPORT_NUMBERS.true))
 
-pub returns-in-Accepted : goal.returns-in-Accepted
-returns-in-Accepted c = let a = c.args in
-    span_accepted a.text.now a.report.now c.if-report-lt-REPORT_NUMBERS.false c.span.result c.span.ensures _ _ _ c.in-Accepted.is c.reply.ensures
+pub returns-in-Ok : goal.returns-in-Ok
+returns-in-Ok c = let a = c.args in
+    span_accepted a.text.now a.report.now c.if-report-lt-REPORT_NUMBERS.false c.span.result c.span.ensures _ _ _ c.in-Ok.is c.reply.ensures
 
-pub returns-in-Refused : goal.returns-in-Refused
-returns-in-Refused c = let a = c.args in
-    span_refused a.text.now a.report.now c.if-report-lt-REPORT_NUMBERS.false c.span.result c.span.ensures _ _ _ c.in-Refused.is _ _ c.number.ensures c.place.ensures c.reply-in-Refused.ensures
+pub returns-in-Err : goal.returns-in-Err
+returns-in-Err c = let a = c.args in
+    span_refused a.text.now a.report.now c.if-report-lt-REPORT_NUMBERS.false c.span.result c.span.ensures _ _ _ c.in-Err.is _ _ c.number.ensures c.place.ensures c.reply-in-Err.ensures

@@ -1,27 +1,22 @@
--- `boolean`: the words for true are asked first, then those for false.
-use mathlib.Core.Path.{◌≡◌, sym, ◌∙◌}
-use mathlib.Core.Bool.{false}
-use Rattle.values.specs.Booleans.{true_words, false_words, among, boolean_of}
+-- `boolean`: at each `_` the text differs from all eight words, by its length or by a byte.
+use Rattle.std.proofs.Common.{rules, arith}
+use Rattle.values.proofs.Words.{neither}
 use Rattle.values.proofs.booleans.boolean.Goals as goal
 
-pub returns-then-is_among : goal.returns-then-is_among
-unfolding boolean_of
-returns-then-is_among c =
-    let asks-true : c.is_among.result ≡ among true_words c.args.text.now = c.is_among.ensures in
-    rw (sym (asks-true) ∙ c.if-is_among.true)
+pub returns-in_default-5 : goal.returns-in_default-5
+returns-in_default-5 c = search (rules, arith, neither)
 
-pub returns-then-is_among-2 : goal.returns-then-is_among-2
-unfolding boolean_of
-returns-then-is_among-2 c =
-    let asks-false : c.is_among-2.result ≡ among false_words c.args.text.now = c.is_among-2.ensures in
-    let asks-true : c.is_among.result ≡ among true_words c.args.text.now = c.is_among.ensures in
-    let not_true : among true_words c.args.text.now ≡ false = sym (asks-true) ∙ c.if-is_among.false in
-    rw (not_true, sym (asks-false) ∙ c.if-is_among-2.true)
+pub returns-in_default-9 : goal.returns-in_default-9
+returns-in_default-9 c = search (rules, arith, neither)
 
-pub returns : goal.returns
-unfolding boolean_of
-returns c =
-    let asks-false : c.is_among-2.result ≡ among false_words c.args.text.now = c.is_among-2.ensures in
-    let asks-true : c.is_among.result ≡ among true_words c.args.text.now = c.is_among.ensures in
-    let not_true : among true_words c.args.text.now ≡ false = sym (asks-true) ∙ c.if-is_among.false in
-    rw (not_true, sym (asks-false) ∙ c.if-is_among-2.false)
+pub returns-in_default-10 : goal.returns-in_default-10
+returns-in_default-10 c = search (rules, arith, neither)
+
+pub returns-in_default-14 : goal.returns-in_default-14
+returns-in_default-14 c = search (rules, arith, neither)
+
+pub returns-in_default-19 : goal.returns-in_default-19
+returns-in_default-19 c = search (rules, arith, neither)
+
+pub returns-in_default-20 : goal.returns-in_default-20
+returns-in_default-20 c = search (rules, arith, neither)

@@ -1,45 +1,45 @@
 -- `span` answers by what it finds in the trimmed text: nothing, digits alone, or parts (`Verdict`).
-use mathlib.Core.Path.{◌≡◌, sym, subst, ◌∙◌}
-use Prim.Native.Nat.{◌<◌}
+use mathlib.Core.Path.{sym, ◌∙◌}
 use native.Mathlib.Omega.{arith}
-use lib.ListN.{length}
-use Rattle.lines.specs.Bytes.{Bytes, digit}
-use Rattle.lines.specs.Trim.{trim_start}
+use Rattle.std.proofs.Common.{rules}
+use Rattle.std.proofs.lemmas.Bool.Decides.{nat_tests}
+use Rattle.std.proofs.lemmas.Result.{err_from_is_err_and}
+use Rattle.lines.specs.Bytes.{digit}
 use Rattle.lines.proofs.Trimming.{trimmed_start}
-use Rattle.values.specs.Spans.{runs, tokens, parts_of, longest}
-use Rattle.values.specs.Steps.{SumOf}
-use Rattle.values.specs.declared.spans.Sum.{Sum}
-use Rattle.values.proofs.Verdict.{span_empty, span_seconds, span_total, span_wrong}
+use Rattle.values.proofs.Longest.{Run, run_found}
+use Rattle.values.proofs.Verdict.{span_empty, span_seconds, span_total, span_wrong, judged}
 use Rattle.values.proofs.spans.span.Goals as goal
+use Rattle.values.proofs.spans.span.Goals.{After-split_start, then-is_empty-2, else-is_empty-2+in_ok-total}
 
-pub returns-then-trimmed-eq0 : goal.returns-then-trimmed-eq0
-returns-then-trimmed-eq0 c = sym (span_empty _ _ c.trim-trimmed.ensures c.if-trimmed-eq0.true)
+digits_run : (c : After-split_start) → Run digit c.trim-trimmed.result.now c.split_start.result.0.now c.split_start.result.1.now
+digits_run c = run_found digit _ _ _ _ c.split_start.ensures (λ b r h. search rules)
 
-pub returns-then-number-trimmed : goal.returns-then-number-trimmed
-returns-then-number-trimmed c =
-    let some_byte : 0 < length c.trim-trimmed.result.now = omega (arith, c.if-trimmed-eq0.false) in
-    c.judged.ensures _ (c.times.ensures _ c.leading_number-number.ensures.amount_is)
-    ∙ sym (span_seconds _ _ c.trim-trimmed.ensures (some_byte) (sym c.leading_number-number.ensures.digits_are ∙ c.if-number-trimmed.true))
+pub returns-then-is_empty : goal.returns-then-is_empty
+returns-then-is_empty c = sym (span_empty _ _ c.trim-trimmed.ensures (grind (arith, nat_tests)))
+
+pub number-requires : goal.number-requires
+number-requires c = (digits_run (goal.at.number-requires c).After-split_start).pass
 
 pub sum_parts-requires : goal.sum_parts-requires
-sum_parts-requires c = (
-  subst (λ (s : Bytes). trim_start s ≡ s) (sym c.trim-trimmed.ensures) (trimmed_start _),
-  c.leading_number-number.ensures,
-)
+sum_parts-requires c = rw c.trim-trimmed.ensures (trimmed_start _)
 
-pub returns-in-Total : goal.returns-in-Total
-returns-in-Total c =
-    let some_byte : 0 < length c.trim-trimmed.result.now = omega (arith, c.if-trimmed-eq0.false) in
-    let not-alone : length (longest digit c.trim-trimmed.result.now) ≡ length c.trim-trimmed.result.now → ⊥ = λ h. c.if-number-trimmed.false (c.leading_number-number.ensures.digits_are ∙ h) in
-    let s = c.trim-trimmed.result.now in
-    let total = subst (λ (z : Sum). SumOf (parts_of (tokens (runs s))) z) c.in-Total.is c.sum_parts.ensures in
-    c.judged-in-Total.ensures _ total.total
-    ∙ sym (span_total _ s _ c.trim-trimmed.ensures (some_byte) (not-alone) total)
+pub returns-in_err-total : goal.returns-in_err-total
+returns-in_err-total c =
+    let p = err_from_is_err_and c.from_residual.result c.from_residual.ensures.1 in
+    let run = digits_run (goal.at.returns-in_err-total c).After-split_start in
+    rw (p.1, p.2, c.in_err-total.ensures.0)
+    (sym (span_wrong _ _ _ _ c.trim-trimmed.ensures (grind (arith, nat_tests)) run (grind (arith, nat_tests)) c.in_err-total.ensures.1))
 
-pub returns-in-Malformed : goal.returns-in-Malformed
-returns-in-Malformed c =
-    let some_byte : 0 < length c.trim-trimmed.result.now = omega (arith, c.if-trimmed-eq0.false) in
-    let not-alone : length (longest digit c.trim-trimmed.result.now) ≡ length c.trim-trimmed.result.now → ⊥ = λ h. c.if-number-trimmed.false (c.leading_number-number.ensures.digits_are ∙ h) in
-    let s = c.trim-trimmed.result.now in
-    sym (span_wrong _ s c.trim-trimmed.ensures (some_byte) (not-alone)
-    (subst (λ (z : Sum). SumOf (parts_of (tokens (runs s))) z) c.in-Malformed.is c.sum_parts.ensures))
+pub returns : goal.returns
+returns c =
+    let run = digits_run (goal.at.returns c).After-split_start in
+    elim c.if-is_empty-2.branch [
+      | then-is_empty-2 w ↦
+          rw (c.ok_or.ensures.value, w.total-is)
+          (judged _ _ (search rules) (w.times-total.ensures _ w.number.ensures)
+          ∙ sym (span_seconds _ _ _ _ c.trim-trimmed.ensures (grind (arith, nat_tests)) run (grind (arith, nat_tests))))
+      | else-is_empty-2+in_ok-total w ↦
+          rw (c.ok_or.ensures.value, w.total-is)
+          (judged _ _ (search rules) w.in_ok-total.ensures.total
+          ∙ sym (span_total _ _ _ _ c.trim-trimmed.ensures (grind (arith, nat_tests)) run _ (grind (arith, nat_tests)) w.in_ok-total.ensures))
+    ]
