@@ -20,19 +20,6 @@ pub fn print(rt: &impl Print, text: &[u8]) -> io::Result<()> {
     rt.write_all(text)
 }
 
-pub fn print_u64(rt: &impl Print, n: u64) -> io::Result<()> {
-    rt.print(n)
-}
-
-pub fn print_number(rt: &impl Print, n: usize) -> io::Result<()> {
-    rt.print(n)
-}
-
-// The line `refused N at P`.
-pub fn print_refused(rt: &impl Print, number: usize, place: usize) -> io::Result<()> {
-    println!(rt; "refused {number} at {place}")
-}
-
 // A line: its number, its length and its bytes, or the first 20 where it has more than `most`.
 fn print_line(rt: &impl Print, line: LogicalLine, buffer: &[u8], most: usize) -> io::Result<()> {
     print!(rt; "{} {}:", line.first, line.length)?;
