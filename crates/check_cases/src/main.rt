@@ -2,7 +2,7 @@
 // tests/expected.py has the same list.
 #![tactic(auto)]
 
-use listing::{cases, long_case, text_cases};
+use listing::{cases, long_case, start_cases};
 use std::io;
 
 // Files of 65,535 bytes and one more or less.
@@ -33,7 +33,7 @@ fn control_bytes(rt: &impl Print) -> io::Result<()> {
 
 // Texts that are not UTF-8.
 fn not_utf8(rt: &impl Print) -> io::Result<()> {
-    text_cases(
+    start_cases(
         rt,
         &[
             ("C0 80", b"a\n\xC0\x80\n"),
@@ -61,7 +61,7 @@ fn not_utf8(rt: &impl Print) -> io::Result<()> {
 
 // The first and last characters of each length.
 fn well_formed(rt: &impl Print) -> io::Result<()> {
-    text_cases(
+    start_cases(
         rt,
         &[
             ("U+0080", b"\xC2\x80\n"),

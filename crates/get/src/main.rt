@@ -2,7 +2,7 @@
 // `refused N at P`.
 #![tactic(auto)]
 
-use listing::{print, print_refused, show};
+use listing::{print, show};
 use lookup::{Lent, Which};
 use std::env::{Env, FillError};
 use std::io;
@@ -32,43 +32,23 @@ fn argument(rt: &impl Env, i: usize, buffer: &mut [u8]) -> Option<usize> {
     }
 }
 
+// Reads the table, and prints the value or the refusal.
 fn answer(rt: &impl Print, section: &[u8], key: &[u8], file: &[u8]) -> io::Result<()> {
     let mut text = [0u8; 65535];
     let mut sections = [0usize; 128];
     let mut entries = [0usize; 2560];
-    answer_from(
-        rt,
-        section,
-        key,
-        file,
-        &mut text,
-        &mut sections,
-        &mut entries,
-    )
-}
-
-// Reads the table into the buffers, and prints the value or the refusal.
-fn answer_from(
-    rt: &impl Print,
-    section: &[u8],
-    key: &[u8],
-    file: &[u8],
-    text: &mut [u8],
-    sections: &mut [usize],
-    entries: &mut [usize],
-) -> io::Result<()> {
-    match table::read(file, text, sections, entries) {
+    match table::read(file, &mut text, &mut sections, &mut entries) {
         Ok(counts) => {
             let lent = Lent {
-                text,
-                sections,
+                text: &text,
+                sections: &sections,
                 section_count: counts.sections,
-                entries,
+                entries: &entries,
                 entry_count: counts.entries,
             };
             print_value(rt, lent, section, key)
         }
-        Err(e) => print_refused(rt, e.number(), e.place()),
+        Err(e) => println!(rt; "{e}"),
     }
 }
 
@@ -76,8 +56,8 @@ fn print_value(rt: &impl Print, lent: Lent, section: &[u8], key: &[u8]) -> io::R
     match lent.find(section, key, Which::Last) {
         Ok(index) => {
             print(rt, lent.value(index))?;
-            print(rt, b"\n")
+            println!(rt)
         }
-        Err(e) => print_refused(rt, e.number(), e.place()),
+        Err(e) => println!(rt; "{e}"),
     }
 }

@@ -1,6 +1,6 @@
 // A text is split.
 use items::Counts;
-use listing::{notation, print, show};
+use listing::{notation, show};
 use std::io;
 
 // What stands behind `split ` in a line.
@@ -41,24 +41,22 @@ fn split_into(
     match items::split(text, bytes, ends) {
         Ok(counts) => print_items(rt, bytes, ends, counts),
         Err(e) => {
-            print(rt, b"all ")?;
-            show::print_kept(
-                rt,
-                show::is_kept(bytes, 0) && show::is_kept(ends, 0),
-            )?;
-            println!(rt; "{e}")
+            let kept = show::is_kept(bytes, 0) && show::is_kept(ends, 0);
+            println!(rt; "all {}, {e}", show::kept_word(kept))
         }
     }
 }
 
 fn print_items(rt: &impl Print, bytes: &[u8], ends: &[usize], counts: Counts) -> io::Result<()> {
-    print(rt, b"rest ")?;
-    show::print_kept(
-        rt,
-        show::is_kept(bytes, counts.bytes) && show::is_kept(ends, counts.items),
+    let kept = show::is_kept(bytes, counts.bytes) && show::is_kept(ends, counts.items);
+    print!(
+        rt;
+        "rest {}, {} items, {} bytes: ",
+        show::kept_word(kept),
+        counts.items,
+        counts.bytes
     )?;
-    print!(rt; "{} items, {} bytes: ", counts.items, counts.bytes)?;
     show::print_numbers(rt, show::front(ends, counts.items))?;
     show::print_bytes(rt, show::front(bytes, counts.bytes))?;
-    print(rt, b"\n")
+    println!(rt)
 }

@@ -1,5 +1,5 @@
 // Items are written, and their text is split again.
-use listing::{notation, print, show};
+use listing::{notation, show};
 use std::io;
 
 // What stands behind `write ` in a line.
@@ -28,18 +28,13 @@ fn write(rt: &impl Print, bytes: &[u8], numbers: &[u8], size: usize) -> io::Resu
 fn write_into(rt: &impl Print, bytes: &[u8], ends: &[usize], out: &mut [u8]) -> io::Result<()> {
     match item_writer::write(bytes, ends, out) {
         Ok(length) => {
-            print(rt, b"rest ")?;
-            show::print_kept(rt, show::is_kept(out, length))?;
-            print!(rt; "{length} bytes: ")?;
+            let kept = show::kept_word(show::is_kept(out, length));
+            print!(rt; "rest {kept}, {length} bytes: ")?;
             let text = show::front(out, length);
             show::print_bytes(rt, text)?;
             split_again(rt, text, bytes, ends)
         }
-        Err(e) => {
-            print(rt, b"all ")?;
-            show::print_kept(rt, show::is_kept(out, 0))?;
-            println!(rt; "{e}")
-        }
+        Err(e) => println!(rt; "all {}, {e}", show::kept_word(show::is_kept(out, 0))),
     }
 }
 
@@ -47,9 +42,9 @@ fn split_again(rt: &impl Print, text: &[u8], bytes: &[u8], ends: &[usize]) -> io
     let mut found = [0u8; 4096];
     let mut found_ends = [0usize; 256];
     if are_same(text, bytes, ends, &mut found, &mut found_ends) {
-        print(rt, b", split again the same\n")
+        println!(rt; ", split again the same")
     } else {
-        print(rt, b", split again not the same\n")
+        println!(rt; ", split again not the same")
     }
 }
 

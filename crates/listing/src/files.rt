@@ -21,7 +21,7 @@ pub fn cases(rt: &impl Print, files: &[(&str, &[u8])]) -> io::Result<()> {
 }
 
 // The same, with the length of the longest well-formed start first.
-pub fn text_cases(rt: &impl Print, files: &[(&str, &[u8])]) -> io::Result<()> {
+pub fn start_cases(rt: &impl Print, files: &[(&str, &[u8])]) -> io::Result<()> {
     for (name, file) in files {
         println!(rt; "{name}\nstart {}", lines::well_formed_length(file))?;
         list(rt, file, MOST)?;

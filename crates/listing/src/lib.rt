@@ -10,7 +10,7 @@ pub mod tables;
 pub mod text_cases;
 mod texts;
 
-pub use files::{cases, long_case, text_cases};
+pub use files::{cases, long_case, start_cases};
 use lines::{Cursor, LogicalLine};
 use std::io;
 pub use stdin::{each_case, with_file};
@@ -18,19 +18,6 @@ pub use texts::{lay_apart, print_run};
 
 pub fn print(rt: &impl Print, text: &[u8]) -> io::Result<()> {
     rt.write_all(text)
-}
-
-pub fn print_u64(rt: &impl Print, n: u64) -> io::Result<()> {
-    rt.print(n)
-}
-
-pub fn print_number(rt: &impl Print, n: usize) -> io::Result<()> {
-    rt.print(n)
-}
-
-// The line `refused N at P`.
-pub fn print_refused(rt: &impl Print, number: usize, place: usize) -> io::Result<()> {
-    println!(rt; "refused {number} at {place}")
 }
 
 // A line: its number, its length and its bytes, or the first 20 where it has more than `most`.

@@ -136,6 +136,7 @@ pub fn is_kept<T: Filler>(buffer: &[T], from: usize) -> bool
     behind(buffer, from).iter().all(|x| *x == T::FILLER)
 }
 
-pub fn print_kept(rt: &impl Print, kept: bool) -> io::Result<()> {
-    rt.print(if kept { "kept, " } else { "changed, " })
+// How that is told.
+pub fn kept_word(kept: bool) -> &'static str {
+    if kept { "kept" } else { "changed" }
 }

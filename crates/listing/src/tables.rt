@@ -1,24 +1,17 @@
 // Prints what a call left in the buffers of a table, or in one like them.
 use crate::show;
 use crate::show::Filler;
-use std::{fmt, io};
+use std::io;
+use table::Counts;
 
-// How much of the three buffers is used.
-#[derive(Clone, Copy)]
-pub struct Counts {
-    pub text: usize,
-    pub sections: usize,
-    pub entries: usize,
-}
-
-impl fmt::Display for Counts {
-    fn fmt<W: fmt::Write>(&self, f: &mut fmt::Formatter<W>) -> fmt::Result {
-        write!(
-            f,
-            "{} text bytes, {} sections, {} entries",
-            self.text, self.sections, self.entries
-        )
-    }
+pub fn print_counts(rt: &impl Print, counts: Counts) -> io::Result<()> {
+    println!(
+        rt;
+        "{} text bytes, {} sections, {} entries",
+        counts.text,
+        counts.sections,
+        counts.entries
+    )
 }
 
 // The three buffers, as a call left them.
@@ -69,10 +62,5 @@ pub fn print_part<T: Filler>(
         Some(next) => next.print_one(rt)?,
         None => print!(rt; "none")?,
     }
-    let rest = if show::is_kept(buffer, used) {
-        "kept"
-    } else {
-        "changed"
-    };
-    println!(rt; ", rest {rest}")
+    println!(rt; ", rest {}", show::kept_word(show::is_kept(buffer, used)))
 }

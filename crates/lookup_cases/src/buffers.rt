@@ -2,7 +2,7 @@
 ghost use Rattle.std.specs.Prelude.{◌≤◌, length};
 
 use crate::answers;
-use listing::{notation, print, show};
+use listing::{notation, show};
 use lookup::{Lent, Which};
 use std::io;
 
@@ -22,7 +22,7 @@ pub(crate) fn find_case(
     line: &[u8],
 ) -> io::Result<()> {
     case(rt, line, |rt, lent| {
-        answers::find(rt, lent, which, section, key, |rt, _, _| print(rt, b"\n"))
+        answers::find(rt, lent, which, section, key, |rt, _, _| println!(rt))
     })
 }
 

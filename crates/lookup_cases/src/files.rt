@@ -1,6 +1,6 @@
 // Questions to the table of a file.
 use crate::answers;
-use listing::{notation, print, print_refused, show};
+use listing::{notation, show};
 use lookup::{Lent, Which};
 use std::io;
 
@@ -25,50 +25,25 @@ pub(crate) fn case(
     read(rt, which, section, key, show::front(&file, laid.length))
 }
 
+// Reads the file, and asks with the counts of the answer.
 fn read(rt: &impl Print, which: Which, section: &[u8], key: &[u8], file: &[u8]) -> io::Result<()> {
     let mut text = [show::BYTE; 65535];
     let mut sections = [show::NUMBER; 128];
     let mut entries = [show::NUMBER; 2560];
-    read_into(
-        rt,
-        which,
-        section,
-        key,
-        file,
-        &mut text,
-        &mut sections,
-        &mut entries,
-    )
-}
-
-// Reads the file, and asks with the counts of the answer.
-fn read_into(
-    rt: &impl Print,
-    which: Which,
-    section: &[u8],
-    key: &[u8],
-    file: &[u8],
-    text: &mut [u8],
-    sections: &mut [usize],
-    entries: &mut [usize],
-) -> io::Result<()> {
-    match table::read(file, text, sections, entries) {
+    match table::read(file, &mut text, &mut sections, &mut entries) {
         Ok(counts) => {
             let lent = Lent {
-                text,
-                sections,
+                text: &text,
+                sections: &sections,
                 section_count: counts.sections,
-                entries,
+                entries: &entries,
                 entry_count: counts.entries,
             };
             answers::find(rt, lent, which, section, key, |rt, lent, index| {
-                print(rt, b", ")?;
+                print!(rt; ", ")?;
                 answers::value(rt, lent, index)
             })
         }
-        Err(e) => {
-            print(rt, b"not read, ")?;
-            print_refused(rt, e.number(), e.place())
-        }
+        Err(e) => println!(rt; "not read, {e}"),
     }
 }

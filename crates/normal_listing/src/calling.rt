@@ -1,6 +1,6 @@
 // A call for the normal text.
-use listing::tables::{Buffers, Counts};
-use listing::{print, show, tables};
+use listing::tables::Buffers;
+use listing::{show, tables};
 use std::io;
 
 // The longest buffers.
@@ -17,17 +17,15 @@ pub(crate) fn call(rt: &impl Print, file: &[u8], sizes: [usize; 4]) -> io::Resul
     let mut sections = [show::NUMBER; SECTIONS];
     let mut entries = [show::NUMBER; ENTRIES];
     let mut out = [show::BYTE; BYTES];
-    if BYTES < t || SECTIONS < s || ENTRIES < e || BYTES < o {
+    let (Some(text), Some(sections), Some(entries), Some(out)) = (
+        text.get_mut(..t),
+        sections.get_mut(..s),
+        entries.get_mut(..e),
+        out.get_mut(..o),
+    ) else {
         return show::bad_case(rt);
-    }
-    call_with(
-        rt,
-        file,
-        &mut text[0..t],
-        &mut sections[0..s],
-        &mut entries[0..e],
-        &mut out[0..o],
-    )
+    };
+    call_with(rt, file, text, sections, entries, out)
 }
 
 // Calls, and prints the answer and what the buffers hold.
@@ -47,19 +45,14 @@ fn call_with(
     };
     match answer {
         Ok(sizes) => {
-            let counts = Counts {
-                text: sizes.table.text,
-                sections: sizes.table.sections,
-                entries: sizes.table.entries,
-            };
-            println!(rt; "{} bytes, {counts}", sizes.length)?;
+            print!(rt; "{} bytes, ", sizes.length)?;
+            tables::print_counts(rt, sizes.table)?;
             tables::print_part(rt, "normal", out, sizes.length)?;
-            buffers.print(rt, counts)
+            buffers.print(rt, sizes.table)
         }
         Err(e) => {
-            print(rt, b"all ")?;
-            show::print_kept(rt, show::is_kept(out, 0) && buffers.all_kept())?;
-            println!(rt; "{e}")
+            let kept = show::is_kept(out, 0) && buffers.all_kept();
+            println!(rt; "all {}, {e}", show::kept_word(kept))
         }
     }
 }

@@ -1,7 +1,7 @@
 // The normal text of the file that standard input has.
 #![tactic(auto)]
 
-use listing::{print, print_refused, show};
+use listing::{print, show};
 use std::io;
 
 // Writes the normal text to standard output, or `refused N at P`.
@@ -14,20 +14,8 @@ fn write(rt: &impl Print, file: &[u8]) -> io::Result<()> {
     let mut sections = [0usize; 128];
     let mut entries = [0usize; 2560];
     let mut out = [0u8; 65535];
-    write_from(rt, file, &mut text, &mut sections, &mut entries, &mut out)
-}
-
-// Makes the normal text in the buffers, and writes it or the refusal.
-fn write_from(
-    rt: &impl Print,
-    file: &[u8],
-    text: &mut [u8],
-    sections: &mut [usize],
-    entries: &mut [usize],
-    out: &mut [u8],
-) -> io::Result<()> {
-    match normal_text::normal_text(file, text, sections, entries, out) {
-        Ok(sizes) => print(rt, show::front(out, sizes.length)),
-        Err(e) => print_refused(rt, e.number(), e.place()),
+    match normal_text::normal_text(file, &mut text, &mut sections, &mut entries, &mut out) {
+        Ok(sizes) => print(rt, show::front(&out, sizes.length)),
+        Err(e) => println!(rt; "{e}"),
     }
 }

@@ -1,6 +1,6 @@
 // A file is read.
-use listing::tables::{Buffers, Counts};
-use listing::{notation, print, print_refused, show};
+use listing::tables::Buffers;
+use listing::{notation, show, tables};
 use std::io;
 
 // The longest buffers.
@@ -75,19 +75,10 @@ fn read_into(
         entries,
     };
     match answer {
-        Ok(c) => {
-            let counts = Counts {
-                text: c.text,
-                sections: c.sections,
-                entries: c.entries,
-            };
-            println!(rt; "{counts}")?;
+        Ok(counts) => {
+            tables::print_counts(rt, counts)?;
             buffers.print(rt, counts)
         }
-        Err(e) => {
-            print(rt, b"all ")?;
-            show::print_kept(rt, buffers.all_kept())?;
-            print_refused(rt, e.number(), e.place())
-        }
+        Err(e) => println!(rt; "all {}, {e}", show::kept_word(buffers.all_kept())),
     }
 }
