@@ -31,24 +31,25 @@ use Rattle.lookup.specs.declared.search.Which.{Which}
 use Rattle.lookup.proofs.Laws.{parts_are_values, found_are_entries}
 use Rattle.claims.specs.LookUps.{AcceptedRead, lent_after, index_in_table, value_in_table, Located, look_up_in, look_up_means, shown, value_after, Gets}
 use Rattle.claims.specs.Steps.{look_up_lent, Asks}
-use Rattle.claims.specs.declared.look_up.LookUpAnswer.{LookUpAnswer}
-use Rattle.claims.specs.declared.look_up.LookUpAnswer.TheVariants.{Found, NotRead, NotFound}
+use Rattle.claims.specs.declared.look_up.Found.{Found}
+use Rattle.claims.specs.declared.look_up.LookUpError.{LookUpError}
+use Rattle.claims.specs.declared.look_up.LookUpError.TheVariants.{NotRead, NotFound}
 use Rattle.claims.proofs.LookedUp.{table_there, index_is, value_is}
 use Rattle.lines.proofs.Outcomes.{not_accepted, same_refusal}
 
 -- ---- what an answer and a buffer say of an outcome
 
 module _ (b : Lent) (w : Which) (x k : Bytes) (out : Bytes) where
-  asks : (o : Outcome Located) → look_up_lent b w x k ≡ o → (r : LookUpAnswer) (out' : Bytes)
+  asks : (o : Outcome Located) → look_up_lent b w x k ≡ o → (r : Result Found LookUpError) (out' : Bytes)
       → look_up_means r ≡ shown o → out' ≡ value_after o out → Asks b w x k out r out'
   asks o e r out' p q = record { answer = p ∙ sym (ap shown e); new_out = q ∙ sym (ap (λ (z : Outcome Located). value_after z out) e) }
 
   -- no such entry
-  pub asks_missing : (r : Result ℕ missing.Error) (d : missing.Error) → r ≡ Err d → find_means r ≡ index_in b w x k → Asks b w x k out (NotFound d) out
+  pub asks_missing : (r : Result ℕ missing.Error) (d : missing.Error) → r ≡ Err d → find_means r ≡ index_in b w x k → Asks b w x k out (Err (NotFound d)) out
   unfolding look_up_lent and_then
   asks_missing r d q e =
       let i : index_in b w x k ≡ lookup.error_means d = sym e ∙ ap find_means q in
-      asks (lookup.error_means d) (rw i) (NotFound d) out refl refl
+      asks (lookup.error_means d) (rw i) (Err (NotFound d)) out refl refl
 
   -- a value is no longer than the text
   value-fits : (i : ℕ) (v : Bytes) → value_in b i ≡ accepted v → length v ≤ length b.text
@@ -71,38 +72,38 @@ module _ (b : Lent) (w : Which) (x k : Bytes) (out : Bytes) where
         let g : v ≡ f.stands.entry.value = h.bytes ∙ ap bytes_or f.value in
         f.value ∙ ap accepted (sym g)
 
-    pub asks_found : (out' : Bytes) → out' ≡ cond (leb (0 + length v) (length out)) (put out 0 v) out → Asks b w x k out (Found i (length v)) out'
+    pub asks_found : (out' : Bytes) → out' ≡ cond (leb (0 + length v) (length out)) (put out 0 v) out → Asks b w x k out (Ok (record { index = i; length = length v })) out'
     unfolding look_up_lent and_then
     asks_found out' c =
         let n : 0 + length v ≤ length out = omega (arith, value-fits i v value) in
-        asks (accepted (record { index = i; value = v })) (rw (index, value)) (Found i (length v)) out' refl
+        asks (accepted (record { index = i; value = v })) (rw (index, value)) (Ok (record { index = i; length = length v })) out' refl
         (copied out out' v 0 n c ∙ rw zero-add)
 
 -- ---- the whole call
 
 module _ (f : Bytes) (w : Which) (x k : Bytes) (out : Bytes) where
-  gets : (o : Outcome Located) → look_up_in (length out) f w x k ≡ o → (r : LookUpAnswer) (out' : Bytes)
+  gets : (o : Outcome Located) → look_up_in (length out) f w x k ≡ o → (r : Result Found LookUpError) (out' : Bytes)
       → look_up_means r ≡ shown o → out' ≡ value_after o out → Gets f w x k out r out'
   gets o e r out' p q = record { answer = p ∙ sym (ap shown e); new_out = q ∙ sym (ap (λ (z : Outcome Located). value_after z out) e) }
 
-  pub gets_short : length out < 65535 → Gets f w x k out (NotRead (File ShortBuffer)) out
+  pub gets_short : length out < 65535 → Gets f w x k out (Err (NotRead (File ShortBuffer))) out
   unfolding look_up_in
-  gets_short h = gets (refused 1 0) (rw (lt-ltb (length out) 65535 h)) (NotRead (File ShortBuffer)) out refl refl
+  gets_short h = gets (refused 1 0) (rw (lt-ltb (length out) 65535 h)) (Err (NotRead (File ShortBuffer))) out refl refl
 
   module _ (h : 65535 ≤ length out) (text : Bytes) (sections entries : List ℕ) (r : Result Counts Error) (text' : Bytes) (sections' entries' : List ℕ)
       (p : Reads f text sections entries r text' sections' entries') where
     -- the file is refused
     pub gets_refused : 65535 ≤ length text → 128 ≤ length sections → 2560 ≤ length entries
-        → (e : Error) → r ≡ Err e → Gets f w x k out (NotRead e) out
+        → (e : Error) → r ≡ Err e → Gets f w x k out (Err (NotRead e)) out
     unfolding look_up_in and_then
     gets_refused a b c e q =
         let d = enough_space_decides (length text) (length sections) (length entries) f a b c in
         let v : counted (verdict f) ≡ error_means e = ap counted (sym d) ∙ sym p.answer ∙ ap read_means q in
         let o : verdict f ≡ error_means e = same_refusal counted (λ t. (counts_of t, refl)) (λ n p. refl) (verdict f) (number_of e) (place_of e) v in
-        gets (error_means e) (rw (le-ltb (length out) 65535 h, o)) (NotRead e) out refl refl
+        gets (error_means e) (rw (le-ltb (length out) 65535 h, o)) (Err (NotRead e)) out refl refl
 
     -- the file has a table
-    pub gets_asked : (counts : Counts) → r ≡ Ok counts → (s : LookUpAnswer) (out' : Bytes)
+    pub gets_asked : (counts : Counts) → r ≡ Ok counts → (s : Result Found LookUpError) (out' : Bytes)
         → Asks (lent text' sections' counts.sections entries' counts.entries) w x k out s out' → Gets f w x k out s out'
     unfolding look_up_in look_up_lent and_then
     gets_asked counts q s out' a =

@@ -126,7 +126,7 @@ pub record IntoText (f out : Bytes) (n : ℕ) (out' : Bytes) : Type 0 where
   pub said : n ≡ length text
   pub after : out' ≡ filled text out
   pub inside : n ≤ length out'
-  pub front : take (n - 0) out' ≡ text
+  pub front : take n out' ≡ text
 
 module _ (f out : Bytes) (r : Result Sizes Error) (out' : Bytes) (p : NormalInto f out r out') where
   pub into_text : (made : Sizes) → r ≡ Ok made → IntoText f out made.length out'
@@ -145,7 +145,7 @@ module _ (f out : Bytes) (r : Result Sizes Error) (out' : Bytes) (p : NormalInto
           let o = text_in_lem (length out) f h ∙ e in
           let z : accepted (length x) ≡ accepted made.length = sym (ap measured o) ∙ said in
           let l : made.length ≡ length x = cc (sym z) in
-          let d : made.length - 0 ≡ length x = omega (arith, l) in
+          let d : made.length ≡ length x = omega (arith, l) in
           let a : out' ≡ filled x out = p.new_out ∙ ap (λ (y : Outcome Bytes). filled_with y out) o in
           let s = text_short f x e in
           record {

@@ -1,6 +1,6 @@
 -- Demand 2, look-up: in the buffers that an accepted read has left, with the counts of its answer, the calls find the
 -- entries of the file's table and hand back their values.
-use Rattle.std.specs.Prelude.{◌≡◌, ℕ, cond, List, ltb, length, Result}
+use Rattle.std.specs.Prelude.{◌≡◌, ℕ, cond, List, ltb, length, Result, Ok, Err}
 use Rattle.lines.specs.Bytes.{Bytes}
 use Rattle.lines.specs.Answers.{Outcome, accepted, refused}
 use Rattle.lines.specs.Buffers.{filled}
@@ -18,8 +18,9 @@ use Rattle.lookup.specs.declared.search.Which.{Which}
 use Rattle.lookup.specs.declared.search.Which.TheVariants.{First, Last}
 use Rattle.lookup.specs.declared.error.Error as missing
 use Rattle.lookup.specs.declared.values.Part as declared
-use Rattle.claims.specs.declared.look_up.LookUpAnswer.{LookUpAnswer}
-use Rattle.claims.specs.declared.look_up.LookUpAnswer.TheVariants.{Found, NotRead, NotFound}
+use Rattle.claims.specs.declared.look_up.Found.{Found}
+use Rattle.claims.specs.declared.look_up.LookUpError.{LookUpError}
+use Rattle.claims.specs.declared.look_up.LookUpError.TheVariants.{NotRead, NotFound}
 
 -- ---- what the table of a file says
 
@@ -124,10 +125,10 @@ pub record Shown : Type 0 where
   pub length : ℕ
 
 -- what its answer means
-abbrev pub look_up_means : LookUpAnswer → Outcome Shown
-look_up_means (Found i n) = accepted (record { index = i; length = n })
-look_up_means (NotRead e) = table.error_means e
-look_up_means (NotFound e) = lookup.error_means e
+abbrev pub look_up_means : Result Found LookUpError → Outcome Shown
+look_up_means (Ok s) = accepted (record { index = s.index; length = s.length })
+look_up_means (Err (NotRead e)) = table.error_means e
+look_up_means (Err (NotFound e)) = lookup.error_means e
 
 -- the outcome, with the value's length for the value
 abbrev pub shown : Outcome Located → Outcome Shown
@@ -140,6 +141,6 @@ value_after (accepted s) d = filled s.value d
 value_after (refused n p) d = d
 
 -- the promise of `read_then_find`
-pub record Gets (f : Bytes) (w : Which) (x k : Bytes) (out : Bytes) (r : LookUpAnswer) (out' : Bytes) : Type 0 where
+pub record Gets (f : Bytes) (w : Which) (x k : Bytes) (out : Bytes) (r : Result Found LookUpError) (out' : Bytes) : Type 0 where
   pub answer : look_up_means r ≡ shown (look_up_in (length out) f w x k)
   pub new_out : out' ≡ value_after (look_up_in (length out) f w x k) out

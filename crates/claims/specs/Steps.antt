@@ -12,8 +12,9 @@ use Rattle.lookup.specs.Questions.{index_in, value_in}
 use Rattle.lookup.specs.declared.search.Which.{Which}
 use Rattle.claims.specs.LookUps.{Located, look_up_means, shown, value_after}
 use Rattle.claims.specs.TwoTexts.{text_of_file, filled_with, OfTwo, both, second, alike_means}
-use Rattle.claims.specs.declared.two_texts.AlikeAnswer.{AlikeAnswer}
-use Rattle.claims.specs.declared.look_up.LookUpAnswer.{LookUpAnswer}
+use Rattle.claims.specs.declared.two_texts.AlikeError.{AlikeError}
+use Rattle.claims.specs.declared.look_up.Found.{Found}
+use Rattle.claims.specs.declared.look_up.LookUpError.{LookUpError}
 
 -- ---- an entry looked up, and its value
 
@@ -23,7 +24,7 @@ unfolding and_then index_in value_in
 look_up_lent b w x k = and_then (index_in b w x k) (λ i. and_then (value_in b i) (λ v. accepted (record { index = i; value = v })))
 
 -- the promise of `find_then_value`
-pub record Asks (b : Lent) (w : Which) (x k : Bytes) (out : Bytes) (r : LookUpAnswer) (out' : Bytes) : Type 0 where
+pub record Asks (b : Lent) (w : Which) (x k : Bytes) (out : Bytes) (r : Result Found LookUpError) (out' : Bytes) : Type 0 where
   pub answer : look_up_means r ≡ shown (look_up_lent b w x k)
   pub new_out : out' ≡ value_after (look_up_lent b w x k) out
 
@@ -60,7 +61,7 @@ text_beside t (accepted u) d = filled t d
 text_beside t (refused n p) d = d
 
 -- the promise of `compare_other`
-pub record Compares (t g out other : Bytes) (r : AlikeAnswer) (out' other' : Bytes) : Type 0 where
+pub record Compares (t g out other : Bytes) (r : Result Bool AlikeError) (out' other' : Bytes) : Type 0 where
   pub answer : alike_means r ≡ compared t (text_of_file g)
   pub new_out : out' ≡ text_beside t (text_of_file g) out
   pub other_after : other' ≡ filled_with (text_of_file g) other

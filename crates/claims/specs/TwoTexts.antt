@@ -1,5 +1,5 @@
 -- Demand 3, of functions that call for two normal texts: that of a file and of its normal text, and those of two files.
-use Rattle.std.specs.Prelude.{◌≡◌, ◌↔◌, ℕ, Bool, true, ◌||◌, cond, List, ltb, length}
+use Rattle.std.specs.Prelude.{◌≡◌, ◌↔◌, ℕ, Bool, true, ◌||◌, cond, List, ltb, length, Result, Ok, Err}
 use Rattle.lines.specs.Bytes.{Bytes}
 use Rattle.lines.specs.Answers.{Outcome, accepted, refused}
 use Rattle.lines.specs.Buffers.{filled}
@@ -7,10 +7,10 @@ use Rattle.table.specs.Tables.{and_then}
 use Rattle.table.specs.Answers.{number_of, place_of, error_means}
 use Rattle.normal_text.specs.Sections.{Pair, Section, sections_in}
 use Rattle.normal_text.specs.NormalText.{normal_text}
-use Rattle.claims.specs.declared.two_texts.TwiceAnswer.{TwiceAnswer}
-use Rattle.claims.specs.declared.two_texts.TwiceAnswer.TheVariants.{Accepted as TwiceAccepted, Refused as TwiceRefused}
-use Rattle.claims.specs.declared.two_texts.AlikeAnswer.{AlikeAnswer}
-use Rattle.claims.specs.declared.two_texts.AlikeAnswer.TheVariants.{Accepted as AlikeAccepted, Refused as AlikeRefused, OtherRefused}
+use Rattle.table.specs.declared.error.Error.{Error}
+use Rattle.claims.specs.declared.two_texts.Lengths.{Lengths}
+use Rattle.claims.specs.declared.two_texts.AlikeError.{AlikeError}
+use Rattle.claims.specs.declared.two_texts.AlikeError.TheVariants.{First, Second}
 
 -- ---- a file, and its normal text as a file
 
@@ -24,15 +24,10 @@ unfoldable pub twice_in : (out_size again_size : ℕ) → Bytes → Outcome Byte
 unfolding text_of_file
 twice_in out_size again_size f = cond (ltb out_size 65535 || ltb again_size 65535) (refused 1 0) (text_of_file f)
 
--- two lengths
-pub record Lengths : Type 0 where
-  pub length : ℕ
-  pub again : ℕ
-
 -- what the answer of `normal_twice` means
-abbrev pub twice_means : TwiceAnswer → Outcome Lengths
-twice_means (TwiceAccepted n m) = accepted (record { length = n; again = m })
-twice_means (TwiceRefused e) = error_means e
+abbrev pub twice_means : Result Lengths Error → Outcome Lengths
+twice_means (Ok l) = accepted l
+twice_means (Err e) = error_means e
 
 -- both are the length of one text
 abbrev pub same_lengths : Outcome Bytes → Outcome Lengths
@@ -48,7 +43,7 @@ filled_with (refused n p) d = d
 -- bytes; else it is the refusal, and both are as they were.
 -- That the second is what a call on the first text leaves is how it is made; that every such call is accepted and leaves
 -- that text is `LeftIsItsOwn` of Demand3.
-pub record Twice (f out again : Bytes) (r : TwiceAnswer) (out' again' : Bytes) : Type 0 where
+pub record Twice (f out again : Bytes) (r : Result Lengths Error) (out' again' : Bytes) : Type 0 where
   pub answer : twice_means r ≡ same_lengths (twice_in (length out) (length again) f)
   pub new_out : out' ≡ filled_with (twice_in (length out) (length again) f) out
   pub again_after : again' ≡ filled_with (twice_in (length out) (length again) f) again
@@ -78,10 +73,10 @@ unfolding sections_in
 alike_in out_size other_size f g = cond (ltb out_size 65535 || ltb other_size 65535) (first 1 0) (held_by (sections_in f) (sections_in g))
 
 -- what the answer of `set_alike` means
-abbrev pub alike_means : AlikeAnswer → OfTwo Bool
-alike_means (AlikeAccepted b) = both b
-alike_means (AlikeRefused e) = first (number_of e) (place_of e)
-alike_means (OtherRefused e) = second (number_of e) (place_of e)
+abbrev pub alike_means : Result Bool AlikeError → OfTwo Bool
+alike_means (Ok b) = both b
+alike_means (Err (First e)) = first (number_of e) (place_of e)
+alike_means (Err (Second e)) = second (number_of e) (place_of e)
 
 -- the answer is true exactly where the two files hold the same sections with the same entries in order; or it is the refusal
 abbrev pub Tells : OfTwo HeldByEach → OfTwo Bool → Type 0
@@ -98,7 +93,7 @@ held_after which (first n p) d = d
 held_after which (second n p) d = d
 
 -- the promise of `set_alike`
-pub record SetAlike (f g out other : Bytes) (r : AlikeAnswer) (out' other' : Bytes) : Type 0 where
+pub record SetAlike (f g out other : Bytes) (r : Result Bool AlikeError) (out' other' : Bytes) : Type 0 where
   pub answer : Tells (alike_in (length out) (length other) f g) (alike_means r)
   pub new_out : out' ≡ held_after (λ h. h.file) (alike_in (length out) (length other) f g) out
   pub other_after : other' ≡ held_after (λ h. h.other) (alike_in (length out) (length other) f g) other

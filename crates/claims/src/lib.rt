@@ -5,6 +5,6 @@ mod look_up;
 mod round_trip;
 mod two_texts;
 
-pub use look_up::{LookUpAnswer, read_then_find};
+pub use look_up::{Found, LookUpError, read_then_find};
 pub use round_trip::write_then_split;
-pub use two_texts::{AlikeAnswer, TwiceAnswer, normal_twice, set_alike};
+pub use two_texts::{AlikeError, Lengths, normal_twice, set_alike};

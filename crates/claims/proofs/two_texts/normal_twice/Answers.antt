@@ -1,5 +1,8 @@
 -- `normal_twice`: the buffer, then each call by its promise; the second is never refused.
+use mathlib.Core.Path.{◌≡◌}
 use native.Mathlib.Omega.{arith}
+use Rattle.std.proofs.Common.{rules}
+use Rattle.std.specs.Prelude.{Err}
 use Rattle.claims.proofs.FileTexts.{into_text}
 use Rattle.claims.proofs.Twice.{twice_short, twice_refused, twice_never, twice_held}
 use Rattle.claims.proofs.two_texts.normal_twice.Goals as goal
@@ -9,16 +12,18 @@ returns-then-again-lt-OUT_BYTES c = twice_short _ _ _ c.if-again-lt-OUT_BYTES.tr
 
 pub slice_bounds-normal_into-end : goal.slice_bounds-normal_into-end
 slice_bounds-normal_into-end c = let a = c.args in
-    omega (arith, (into_text a.file.now a.out.now c.normal_into.result _ c.normal_into.ensures _ c.in-Ok.is).inside)
+    omega (arith, (into_text a.file.now a.out.now c.normal_into.result _ c.normal_into.ensures _ c.in_ok-first.was).inside)
 
-pub returns-in-Ok-normal_into : goal.returns-in-Ok-normal_into
-returns-in-Ok-normal_into c = let a = c.args in
-    twice_held a.file.now a.out.now a.again.now c.if-again-lt-OUT_BYTES.false c.normal_into.result _ c.normal_into.ensures _ c.in-Ok.is c.normal_into-in-Ok.result _ c.normal_into-in-Ok.ensures _ c.in-Ok-normal_into.is
+pub returns : goal.returns
+returns c = let a = c.args in
+    twice_held a.file.now a.out.now a.again.now c.if-again-lt-OUT_BYTES.false c.normal_into.result _ c.normal_into.ensures _ c.in_ok-first.was c.normal_into-2.result _ c.normal_into-2.ensures _ c.in_ok-second.was
 
-pub returns-in-Err-normal_into : goal.returns-in-Err-normal_into
-returns-in-Err-normal_into c = let a = c.args in
-    twice_never a.file.now a.out.now a.again.now c.if-again-lt-OUT_BYTES.false c.normal_into.result _ c.normal_into.ensures _ c.in-Ok.is c.normal_into-in-Ok.result _ c.normal_into-in-Ok.ensures _ c.in-Err-normal_into.is
+pub returns-in_err-first : goal.returns-in_err-first
+returns-in_err-first c =
+    let a = c.args in
+    let q : c.from_residual.result ≡ Err c.in_err-first.field-0.0 = search rules in
+    rw q (twice_refused a.file.now a.out.now a.again.now c.if-again-lt-OUT_BYTES.false c.normal_into.result _ c.normal_into.ensures _ c.in_err-first.was)
 
-pub returns-in-Err : goal.returns-in-Err
-returns-in-Err c = let a = c.args in
-    twice_refused a.file.now a.out.now a.again.now c.if-again-lt-OUT_BYTES.false c.normal_into.result _ c.normal_into.ensures _ c.in-Err.is
+pub returns-in_err-second : goal.returns-in_err-second
+returns-in_err-second c = let a = c.args in
+    twice_never a.file.now a.out.now a.again.now c.if-again-lt-OUT_BYTES.false c.normal_into.result _ c.normal_into.ensures _ c.in_ok-first.was c.normal_into-2.result _ c.normal_into-2.ensures _ c.in_err-second.was

@@ -1,5 +1,6 @@
 -- `set_alike`: the buffers, the call on the first file, then the second.
-use native.Mathlib.Omega.{arith}
+use mathlib.Core.Path.{sym}
+use lib.Seq.{length-take-le}
 use Rattle.claims.proofs.Alike.{alike_short_out, alike_short_other, alike_refused, text_inside, text_fits_out, alike-compared}
 use borrow.Author.Rules.{rules}
 use Rattle.claims.proofs.two_texts.set_alike.Goals as goal
@@ -12,7 +13,7 @@ returns-then-other_out-lt-OUT_BYTES c = alike_short_other _ _ _ _ c.if-other_out
 
 pub slice_bounds-compare_other-end : goal.slice_bounds-compare_other-end
 slice_bounds-compare_other-end c = let a = c.args in
-    omega (arith, text_inside a.file.now a.other.now a.out.now a.other_out.now c.if-out-lt-OUT_BYTES.false c.if-other_out-lt-OUT_BYTES.false _ (search rules) c.normal_into.result _ c.normal_into.ensures _ c.in-Ok.is)
+    sym (length-take-le c.in-Ok.sizes.length c.normal_into.new.out (text_inside a.file.now a.other.now a.out.now a.other_out.now c.if-out-lt-OUT_BYTES.false c.if-other_out-lt-OUT_BYTES.false _ (search rules) c.normal_into.result c.normal_into.new.out c.normal_into.ensures _ c.in-Ok.is))
 
 pub compare_other-requires : goal.compare_other-requires
 compare_other-requires c = let a = c.args in
