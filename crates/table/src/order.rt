@@ -68,6 +68,7 @@ fn name_at<'a>(index: usize, text: &'a [u8], sections: &[usize]) -> Option<&'a [
     text.get(start..)?.get(..length)
 }
 
+// The places in rising order, and how many sections there are.
 #[derive(Drop)]
 pub(crate) struct Order {
     places: [Place; MOST_SECTIONS],
@@ -88,7 +89,8 @@ impl Order {
     }
 
     // The first place whose number is not below this one. Half of what is left is passed over or not at each turn, by a
-    // product and no branch: so names that come in any order cost no more than others.
+    // product and no branch: so names that come in any order cost no more than others. (The library's `partition_point` has
+    // a branch there, and names of one byte took half as long again with it.)
     fn first_not_below(&self, number: usize) -> usize
         ensures { result ≤ self.now.count }
     {
@@ -102,27 +104,33 @@ impl Order {
         first
     }
 
-    // Where a name stands, or belongs.
-    fn place_of(&self, name: &[u8], text: &[u8], sections: &[usize]) -> usize
+    // Where a name stands, or belongs, among the places from `first` on, whose numbers are not below its own.
+    fn place_among(
+        &self,
+        first: usize,
+        number: usize,
+        name: &[u8],
+        text: &[u8],
+        sections: &[usize],
+    ) -> usize
+        requires { first ≤ self.now.count }
         ensures { result ≤ self.now.count }
     {
-        let number = number_of(name);
-        let first = self.first_not_below(number);
-        match &self.places[first..self.count] {
-            [_, next, ..] if next.number == number => {
-                first
-                    + self.places[first..self.count].partition_point(|p| p.is_before(
-                        number, name, text, sections,
-                    ))
-            }
-            // No more than one section has the number.
-            _ => first,
-        }
+        let places = &self.places[first..self.count];
+        first + places.partition_point(|p| p.is_before(number, name, text, sections))
     }
 
-    // The index of the section that has a name, if one has it.
+    // The index of the section that has a name, if one has it. Where no more than one section has the name's number, that
+    // one is meant.
     pub(crate) fn guess(&self, name: &[u8], text: &[u8], sections: &[usize]) -> Option<usize> {
-        let place = self.place_of(name, text, sections);
+        let number = number_of(name);
+        let first = self.first_not_below(number);
+        let place = match &self.places[first..self.count] {
+            [_, next, ..] if next.number == number => {
+                self.place_among(first, number, name, text, sections)
+            }
+            _ => first,
+        };
         self.places[..self.count].get(place).map(|p| p.section)
     }
 
@@ -131,10 +139,12 @@ impl Order {
         if self.count == MOST_SECTIONS {
             return;
         }
-        let place = self.place_of(name, text, sections);
+        let number = number_of(name);
+        let first = self.first_not_below(number);
+        let place = self.place_among(first, number, name, text, sections);
         self.places[place..=self.count].rotate_right(1);
         self.places[place] = Place {
-            number: number_of(name),
+            number,
             section: self.count,
         };
         self.count += 1;

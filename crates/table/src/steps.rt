@@ -77,13 +77,10 @@ impl Builder {
         requires { self.old.state.text + length line.now ≤ 65535 }
         ensures { TakesLine (kind (trimmed line.now)) number self.old result self.new }
     {
-        let trimmed = lines::trim(line);
-        if trimmed.is_empty() {
-            return Ok(());
+        match lines::trim(line) {
+            [] => Ok(()),
+            [b'[', rest @ ..] => self.add_header_line(rest, number),
+            trimmed => self.add_entry_line(trimmed, number),
         }
-        if trimmed[0] == b'[' {
-            return self.add_header_line(&trimmed[1..], number);
-        }
-        self.add_entry_line(trimmed, number)
     }
 }
