@@ -1,4 +1,4 @@
--- What is reported for an outcome: nothing in a short report, and what a reply has put into any other.
+-- What is reported for an outcome: nothing in a short report, and what `tell` has put into any other.
 use mathlib.Core.Path.{◌≡◌, refl, sym, ap, subst, ◌∙◌}
 use Prim.Native.Nat.{ℕ, ◌≤◌, ◌<◌}
 use mathlib.Core.Bool.{false}
@@ -8,8 +8,8 @@ use lib.Dec.{eqb}
 use borrow.Author.Tests.{lt-ltb, le-ltb}
 use Rattle.lines.specs.Answers.{Outcome, accepted, refused}
 use Rattle.lines.specs.Buffers.{filled}
-use Rattle.havtsulen.specs.Reports.{four, is_short, with_report, report_after, Reports}
-use Rattle.havtsulen.specs.Steps.{Replies}
+use Rattle.std.specs.Prelude.{Result, Ok, Err}
+use Rattle.havtsulen.specs.Reports.{outcome_of, four, is_short, with_report, report_after, Reports}
 
 -- ---- the report is judged before everything
 
@@ -31,29 +31,38 @@ module _ {A : Type 0} (told : A → List ℕ) (o : Outcome A) (report : List ℕ
       subst (λ (v : Outcome A). Reports told v report 1 report) (sym e)
       (record { answer = refl; decides = refl; new_report = rw (lt-ltb (length report) 4 h) })
 
-  module _ (h : 4 ≤ length report) (r : ℕ) (report' : List ℕ) where
-    -- what is put into any other
-    after : (ns : List ℕ) → report' ≡ filled ns report → report' ≡ report_after ns report
-    unfolding report_after is_short
-    after ns p = p ∙ rw (le-ltb (length report) 4 h)
+-- ---- what `tell` answers
 
-    -- a reply for what was accepted
-    pub accepts : (x : A) → accepted x ≡ o → (a b c d : ℕ) → told x ≡ four a b c d → Replies 0 a b c d report r report' → Reports told o report r report'
-    accepts x e a b c d t p =
-        subst (λ (v : Outcome A). Reports told v report r report') e
-        (record {
-          answer = p.answer;
-          decides = ap (λ (n : ℕ). eqb n 0) p.answer;
-          new_report = after (told x) (p.new_report ∙ ap (λ (ns : List ℕ). filled ns report) (sym t));
-        })
+-- what is put into a report that is not short
+after : (report : List ℕ) → 4 ≤ length report → (ns report' : List ℕ) → report' ≡ filled ns report → report' ≡ report_after ns report
+unfolding report_after is_short
+after report h ns report' p = p ∙ rw (le-ltb (length report) 4 h)
 
-    -- a reply for a refusal
-    pub refuses : (n p : ℕ) → refused n p ≡ o → eqb n 0 ≡ false → (number place : ℕ) → number ≡ n → place ≡ p
-        → Replies number place 0 0 0 report r report' → Reports told o report r report'
-    refuses n p e z number place i j q =
-        subst (λ (v : Outcome A). Reports told v report r report') e
-        (record {
-          answer = q.answer ∙ i;
-          decides = ap (λ (m : ℕ). eqb m 0) (q.answer ∙ i) ∙ z;
-          new_report = after (four p 0 0 0) (q.new_report ∙ ap (λ (m : ℕ). filled (four m 0 0 0) report) j);
-        })
+pub after_long : (report : List ℕ) → 4 ≤ length report → (ns : List ℕ) → report_after ns report ≡ filled ns report
+after_long report h ns = sym (after report h ns (filled ns report) refl)
+
+module _ {A : Type 0} (told : A → List ℕ) (report : List ℕ) (h : 4 ≤ length report) where
+  pub accepts : (x : A) (ns report' : List ℕ) → ns ≡ told x → report' ≡ filled ns report → Reports told (accepted x) report 0 report'
+  accepts x ns report' t p = record { answer = refl; decides = refl; new_report = after report h (told x) report' (p ∙ ap (λ (n : List ℕ). filled n report) t) }
+
+  pub refuses : (n p r place : ℕ) (report' : List ℕ) → eqb n 0 ≡ false → r ≡ n → place ≡ p → report' ≡ filled (four place 0 0 0) report
+      → Reports told (refused n p) report r report'
+  refuses n p r place report' z i j q =
+      record {
+        answer = i;
+        decides = ap (λ (m : ℕ). eqb m 0) i ∙ z;
+        new_report = after report h (four p 0 0 0) report' (q ∙ ap (λ (m : ℕ). filled (four m 0 0 0) report) j);
+      }
+
+-- ---- from an answer to the outcome that it means
+
+pub meaning : {A E : Type 0} (number place : E → ℕ) (means : Result A E → Outcome A)
+    → ((x : A) → means (Ok x) ≡ accepted x) → ((e : E) → means (Err e) ≡ refused (number e) (place e))
+    → (a : Result A E) → outcome_of number place a ≡ means a
+meaning number place means ok err (Ok x) = sym (ok x)
+meaning number place means ok err (Err e) = sym (err e)
+
+-- what is told of an answer is told of the outcome
+pub said : {A : Type 0} (told : A → List ℕ) (o o' : Outcome A) → o ≡ o' → (report : List ℕ) (r : ℕ) (report' : List ℕ)
+    → Reports told o report r report' → Reports told o' report r report'
+said {A} told o o' e report r report' p = subst (λ (v : Outcome A). Reports told v report r report') e p

@@ -11,6 +11,7 @@ use Rattle.table.specs.Answers.{counted, TableLeft, read_in}
 use Rattle.lookup.specs.Decoding.{Lent, part}
 use Rattle.lookup.specs.Questions.{Part, index_in, value_in, part_in}
 use Rattle.lookup.specs.Answers.{bytes_or, part_or}
+use Rattle.lookup.specs.declared.values.Part as declared
 use Rattle.lookup.specs.declared.search.Which.{Which}
 use Rattle.lookup.specs.declared.search.Which.TheVariants.{First, Last}
 use Rattle.normal_text.specs.declared.normal.Sizes.{Sizes}
@@ -43,6 +44,10 @@ truth_told b = four (cond b 1 0) 0 0 0
 -- a part of the text: start and length
 abbrev pub part_told : Part → List ℕ
 part_told p = four p.start p.size 0 0
+
+-- the same of the part as the code hands it back
+abbrev pub place_told : declared.Part → List ℕ
+place_told p = four p.start p.length 0 0
 
 -- text bytes, sections, entries
 abbrev pub counts_told : Counts → List ℕ

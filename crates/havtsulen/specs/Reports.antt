@@ -1,5 +1,5 @@
 -- What a caller in C is told of an outcome: a number as the answer, and four numbers in a report.
-use Rattle.std.specs.Prelude.{◌≡◌, ℕ, Bool, true, false, cond, List, [], ◌∷◌, length, ltb, eqb}
+use Rattle.std.specs.Prelude.{◌≡◌, ℕ, Bool, true, false, cond, List, [], ◌∷◌, length, ltb, eqb, Result, Ok, Err}
 use Rattle.lines.specs.Answers.{Outcome, accepted, refused}
 use Rattle.lines.specs.Buffers.{filled}
 
@@ -12,6 +12,11 @@ answered (refused n p) = n
 abbrev pub is_accepted : {A : Type 0} → Outcome A → Bool
 is_accepted (accepted x) = true
 is_accepted (refused n p) = false
+
+-- what an answer of the code means, where these are the number and the place of a refusal
+abbrev pub outcome_of : {A E : Type 0} → (number place : E → ℕ) → Result A E → Outcome A
+outcome_of number place (Ok x) = accepted x
+outcome_of number place (Err e) = refused (number e) (place e)
 
 -- the four numbers of a report
 abbrev pub four : (a b c d : ℕ) → List ℕ

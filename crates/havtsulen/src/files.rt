@@ -1,9 +1,7 @@
 // Calls on a whole file.
 ghost use Rattle.havtsulen.specs.Answers.{ReportsWellFormedLength, ReportsCheckFile, ReportsRead, ReportsNormalText};
 
-use crate::report::{REPORT_NUMBERS, SHORT_REPORT, reply};
-use lines::Check;
-use normal_text::Sizes;
+use crate::report::{REPORT_NUMBERS, SHORT_REPORT, tell};
 
 // The length of the longest well-formed start of a text.
 pub fn havtsulen_well_formed_length(text: &[u8], report: &mut [usize]) -> usize
@@ -12,7 +10,7 @@ pub fn havtsulen_well_formed_length(text: &[u8], report: &mut [usize]) -> usize
     if report.len() < REPORT_NUMBERS {
         return SHORT_REPORT;
     }
-    reply(0, lines::well_formed_length(text), 0, 0, 0, report)
+    tell(Ok::<usize, lines::Error>(lines::well_formed_length(text)), report)
 }
 
 // What is judged of a whole file: its size, UTF-8, control bytes.
@@ -22,10 +20,7 @@ pub fn havtsulen_check_file(file: &[u8], report: &mut [usize]) -> usize
     if report.len() < REPORT_NUMBERS {
         return SHORT_REPORT;
     }
-    match lines::check_file(file) {
-        Check::Accepted => reply(0, 0, 0, 0, 0, report),
-        Check::Refused(e) => reply(e.number(), e.place(), 0, 0, 0, report),
-    }
+    tell(lines::check_file(file), report)
 }
 
 // The table of a file.
@@ -41,10 +36,7 @@ pub fn havtsulen_read(
     if report.len() < REPORT_NUMBERS {
         return SHORT_REPORT;
     }
-    match table::read(file, text, sections, entries) {
-        Ok(counts) => reply(0, counts.text, counts.sections, counts.entries, 0, report),
-        Err(e) => reply(e.number(), e.place(), 0, 0, 0, report),
-    }
+    tell(table::read(file, text, sections, entries), report)
 }
 
 // The normal text of a file.
@@ -61,8 +53,8 @@ pub fn havtsulen_normal_text(
     if report.len() < REPORT_NUMBERS {
         return SHORT_REPORT;
     }
-    match normal_text::normal_text(file, text, sections, entries, out) {
-        Ok(Sizes { length, table: t }) => reply(0, length, t.text, t.sections, t.entries, report),
-        Err(e) => reply(e.number(), e.place(), 0, 0, 0, report),
-    }
+    tell(
+        normal_text::normal_text(file, text, sections, entries, out),
+        report,
+    )
 }

@@ -1,7 +1,7 @@
 // Lists of items.
 ghost use Rattle.havtsulen.specs.Answers.{ReportsSplit, ReportsWrite};
 
-use crate::report::{REPORT_NUMBERS, SHORT_REPORT, reply};
+use crate::report::{REPORT_NUMBERS, SHORT_REPORT, tell};
 
 // The items of a text.
 pub fn havtsulen_split(
@@ -15,10 +15,7 @@ pub fn havtsulen_split(
     if report.len() < REPORT_NUMBERS {
         return SHORT_REPORT;
     }
-    match items::split(text, bytes, ends) {
-        Ok(counts) => reply(0, counts.items, counts.bytes, 0, 0, report),
-        Err(e) => reply(e.number(), e.place(), 0, 0, 0, report),
-    }
+    tell(items::split(text, bytes, ends), report)
 }
 
 // The text of items.
@@ -28,8 +25,5 @@ pub fn havtsulen_write(bytes: &[u8], ends: &[usize], out: &mut [u8], report: &mu
     if report.len() < REPORT_NUMBERS {
         return SHORT_REPORT;
     }
-    match item_writer::write(bytes, ends, out) {
-        Ok(length) => reply(0, length, 0, 0, 0, report),
-        Err(e) => reply(e.number(), e.place(), 0, 0, 0, report),
-    }
+    tell(item_writer::write(bytes, ends, out), report)
 }

@@ -8,6 +8,7 @@ mod item_lists;
 mod questions;
 mod report;
 mod settings;
+mod told;
 
 pub use files::{
     havtsulen_check_file, havtsulen_normal_text, havtsulen_read, havtsulen_well_formed_length,

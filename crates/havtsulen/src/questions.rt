@@ -3,8 +3,8 @@ ghost use Rattle.std.specs.Prelude.{◌≡◌};
 ghost use Rattle.lookup.specs.Decoding.{lent};
 ghost use Rattle.havtsulen.specs.Answers.{which_of, ReportsFind, ReportsValueCheck, ReportsValue};
 
-use crate::report::{REPORT_NUMBERS, SHORT_REPORT, reply};
-use lookup::{Lent, Which};
+use crate::report::{REPORT_NUMBERS, SHORT_REPORT, tell};
+use lookup::{Lent, Part, Which};
 
 // Which entry a number asks for: 0 the first, any other the last.
 fn which_of(which: usize) -> Which
@@ -40,10 +40,7 @@ pub fn havtsulen_find(
         entries,
         entry_count,
     };
-    match lent.find(section, key, which_of(which)) {
-        Ok(index) => reply(0, index, 0, 0, 0, report),
-        Err(e) => reply(e.number(), e.place(), 0, 0, 0, report),
-    }
+    tell(lent.find(section, key, which_of(which)), report)
 }
 
 // Where the value of the entry with this index stands in the text, or why there is none.
@@ -68,10 +65,7 @@ pub fn havtsulen_value_check(
         entries,
         entry_count,
     };
-    match lent.value_check(index) {
-        Ok(part) => reply(0, part.start, part.length, 0, 0, report),
-        Err(refusal) => reply(refusal.number(), refusal.place(), 0, 0, 0, report),
-    }
+    tell(lent.value_check(index), report)
 }
 
 // The value: start and length of a part of the text; the empty part at its start where `havtsulen_value_check` refuses.
@@ -96,8 +90,9 @@ pub fn havtsulen_value(
         entries,
         entry_count,
     };
-    match lent.value_check(index) {
-        Ok(part) => reply(0, part.start, part.length, 0, 0, report),
-        Err(_) => reply(0, 0, 0, 0, 0, report),
-    }
+    let part = lent.value_check(index).unwrap_or(Part {
+        start: 0,
+        length: 0,
+    });
+    tell(Ok::<Part, lookup::Error>(part), report)
 }

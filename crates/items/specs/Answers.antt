@@ -1,5 +1,6 @@
 -- What the answers mean in the rules, and what a call of `split` leaves in the buffers.
-use Rattle.std.specs.Prelude.{◌≡◌, ℕ, List, length, Result, Ok, Err}
+use mathlib.Core.Path.{refl}
+use Rattle.std.specs.Prelude.{◌≡◌, ℕ, List, length, Result, Ok, Err, false, eqb}
 use Rattle.lines.specs.Bytes.{Bytes}
 use Rattle.lines.specs.Answers.{Outcome, accepted, refused}
 use Rattle.lines.specs.Buffers.{filled}
@@ -33,6 +34,19 @@ place_of (EscapeValue at) = at
 place_of (TooManyItems at) = at
 place_of NulByte = 0
 place_of BadEnds = 0
+
+-- none has the number 0
+pub never_0 : (e : Error) → eqb (number_of e) 0 ≡ false
+never_0 ShortBuffer = refl
+never_0 TextTooLong = refl
+never_0 (ForbiddenByte at) = refl
+never_0 (MisplacedQuote at) = refl
+never_0 (OpenQuote at) = refl
+never_0 (EscapeForm at) = refl
+never_0 (EscapeValue at) = refl
+never_0 (TooManyItems at) = refl
+never_0 NulByte = refl
+never_0 BadEnds = refl
 
 -- an error is a refusal
 abbrev pub error_means : {A : Type 0} → Error → Outcome A

@@ -1,7 +1,7 @@
 // Why a call is refused: the refusals 1 and 20 to 28 of the rules.
-ghost use Rattle.std.specs.Prelude.{◌≡◌};
-ghost use Rattle.items.specs.Answers.{number_of, place_of};
+ghost use Rattle.items.specs.Answers.{number_of, place_of, never_0};
 
+use lines::Refusal;
 use std::fmt;
 
 // A fault in a text carries its offset.
@@ -21,11 +21,14 @@ pub enum Error {
     BadEnds,
 }
 
-impl Error {
-    // The number of the refusal.
-    pub fn number(self) -> usize
-        ensures { result ≡ number_of self }
-    {
+impl Refusal for Error {
+    ghost number_is = { number_of };
+
+    ghost place_is = { place_of };
+
+    ghost never_0 = { never_0 };
+
+    fn number(self) -> usize {
         match self {
             Error::ShortBuffer => 1,
             Error::TextTooLong => 20,
@@ -41,9 +44,7 @@ impl Error {
     }
 
     // Its place: an offset, or 0.
-    pub fn place(self) -> usize
-        ensures { result ≡ place_of self }
-    {
+    fn place(self) -> usize {
         match self {
             Error::ForbiddenByte(at)
             | Error::MisplacedQuote(at)

@@ -7,7 +7,7 @@ ghost use Rattle.items.specs.Steps.{pieces_at, rest_of, BlanksFirst, ItemTaken, 
 
 use crate::error::Error;
 use crate::pieces::{Mode, Piece, is_quote, piece_at};
-use lines::{copy_into, copy_numbers_into, is_blank};
+use lines::{copy_into, is_blank};
 
 // How many items there are, and how many bytes they have together.
 #[derive(Clone, Copy)]
@@ -145,7 +145,7 @@ fn split_apart(text: &[u8], bytes: &mut [u8], ends: &mut [usize]) -> Result<Coun
     let mut numbers = [0usize; ENDS];
     let counts = read_items(text, &mut scratch, &mut numbers)?;
     copy_into(&scratch[..counts.bytes], bytes, 0);
-    copy_numbers_into(&numbers[..counts.items], ends, 0);
+    copy_into(&numbers[..counts.items], ends, 0);
     Ok(counts)
 }
 

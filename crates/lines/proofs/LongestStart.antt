@@ -1,4 +1,4 @@
--- The longest well-formed start.
+-- The longest well-formed start: it is well-formed, and the whole of well-formed bytes.
 use mathlib.Core.Path.{◌≡◌, refl, ap, ◌∙◌}
 use Prim.Native.Nat.{ℕ, zero, suc}
 use mathlib.Core.Bool.{true, false}

@@ -4,21 +4,20 @@ use mathlib.Core.Path.{◌≡◌, refl, sym, ap, subst, ◌∙◌}
 use mathlib.Core.Logic.{◌⊎◌, ⊎_elim, inl, inr}
 use Prim.Native.Nat.{ℕ, zero, suc, ◌+◌, ◌-◌, ◌*◌, ◌/◌, ◌%◌, ◌≤◌}
 use native.Mathlib.Omega.{arith}
-use native.Mathlib.Nat.{add-zero, add-suc}
-use mathlib.Core.Bool.{true, false, ◌&&◌}
+use mathlib.Core.Bool.{true, false, ◌&&◌, cond}
 use mathlib.Core.Option.{Option, none, some}
 use mathlib.Core.List.{List, [], ◌∷◌}
 use lib.ListN.{length, take, drop}
 use lib.Dec.{leb}
 use lib.Utf8.{scalar, scalars, encode, encodes, scalar_cases, low_scalar}
 use borrow.Author.Tests.{leb-true, le-leb, lt-leb, lt-ltb, le-ltb}
-use Rattle.std.specs.Str.{IsUtf8, IsValidUpTo}
-use Rattle.std.proofs.lemmas.Str.{IsUtf8-append, IsUtf8-encode}
+use Rattle.std.specs.Str.{IsUtf8, is_utf8}
+use Rattle.std.specs.Str.Lossy.{valid_len_up_to, utf8_valid_len}
+use Rattle.std.proofs.lemmas.Str.{IsUtf8-append, IsUtf8-encode, IsUtf8-from_is_utf8, is_utf8-from_IsUtf8, utf8_valid_len-IsUtf8}
 use Rattle.lines.specs.Bytes.{Bytes, between}
 use Rattle.lines.specs.Utf8.{Range, range, tail, row, rows, headed, heads, after, well, utf8, start_within, longest_start, encoded}
 use Rattle.lines.proofs.Bools.{by_cases, and_left, and_right, and_false, impossible, is_false}
 use Rattle.lines.proofs.Utf8Laws.{utf8_append}
-use Rattle.lines.proofs.LongestStart.{start_no, start_yes, longest_start-all}
 use Rattle.lines.proofs.Encoded.{split, encoded-utf8}
 
 -- ---- the bytes of characters are well-formed
@@ -202,20 +201,21 @@ std_of_utf8 bs h = std_within (length bs) bs (omega arith) h
 
 -- ---- what `str::from_utf8` answers
 
+same_test : (bs : Bytes) → is_utf8 bs ≡ utf8 bs
+same_test bs =
+    by_cases (utf8 bs)
+    (λ e. is_utf8-from_IsUtf8 bs (std_of_utf8 bs e) ∙ sym e)
+    (λ e. is_false (is_utf8 bs) (λ h. impossible (sym e ∙ utf8_of_std bs (IsUtf8-from_is_utf8 bs h))) ∙ sym e)
+
+same_within : (n : ℕ) (t : Bytes) → valid_len_up_to t n ≡ start_within n t
+unfolding start_within
+same_within zero t = refl
+same_within (suc n) t = λ k. cond (same_test (take (suc n) t) k) (suc n) (same_within n t k)
+
+-- the longest start that std finds
+pub valid_len_of_std : (t : Bytes) → utf8_valid_len t ≡ longest_start t
+unfolding utf8_valid_len longest_start
+valid_len_of_std t = same_within (length t) t
+
 pub length_of_std : (t : Bytes) → IsUtf8 t → length t ≡ longest_start t
-length_of_std t u = sym (longest_start-all t (utf8_of_std t u))
-
-module _ (t : Bytes) (n : ℕ) (v : IsValidUpTo t n) where
-  start_from : (k : ℕ) → start_within (n + k) t ≡ n
-  start_from zero = rw add-zero (start_yes t n (utf8_of_std (take n t) v.front))
-  start_from (suc k) =
-      rw add-suc
-      (start_no t (n + k) (is_false (utf8 (take (suc (n + k)) t)) (λ h. v.longest (suc (n + k)) (omega arith) (std_of_utf8 (take (suc (n + k)) t) h)))
-      ∙ start_from k)
-
-  pub valid_of_std : n ≡ longest_start t
-  unfolding longest_start
-  valid_of_std =
-      let short = v.short in
-      let e : n + (length t - n) ≡ length t = omega arith in
-      sym (ap (λ m. start_within m t) (sym e) ∙ start_from (length t - n))
+length_of_std t u = sym (utf8_valid_len-IsUtf8 t u) ∙ valid_len_of_std t

@@ -1,5 +1,6 @@
 -- What an answer means in the rules: a result, or the number and the place of one refusal.
-use Rattle.std.specs.Prelude.{ℕ}
+use mathlib.Core.Path.{refl}
+use Rattle.std.specs.Prelude.{ℕ, ◌≡◌, false, eqb}
 use Rattle.lines.specs.declared.error.Error.{Error}
 use Rattle.lines.specs.declared.error.Error.TheVariants.{ShortBuffer, FileTooLong, NotUtf8, ControlByte, LineTooLong}
 
@@ -23,6 +24,14 @@ place_of FileTooLong = 0
 place_of (NotUtf8 n) = n
 place_of (ControlByte n) = n
 place_of (LineTooLong n) = n
+
+-- none has the number 0
+pub never_0 : (e : Error) → eqb (number_of e) 0 ≡ false
+never_0 ShortBuffer = refl
+never_0 FileTooLong = refl
+never_0 (NotUtf8 n) = refl
+never_0 (ControlByte n) = refl
+never_0 (LineTooLong n) = refl
 
 -- an error is a refusal
 abbrev pub error_means : {A : Type 0} → Error → Outcome A

@@ -56,6 +56,7 @@ pub fn is_header_byte(b: u8) -> bool
 // ---- comparison
 
 // Equal byte for byte.
+#[tactic(auto, using(crate::proofs::Comparison::pointwise_equal))]
 pub fn same(a: &[u8], b: &[u8]) -> bool
     ensures { result ≡ equal a.now b.now }
 {
@@ -87,6 +88,7 @@ pub fn trim_end(text: &[u8]) -> &[u8]
     rest
 }
 
+#[tactic(auto, unfolding(crate::specs::Trim::trimmed))]
 pub fn trim(text: &[u8]) -> &[u8]
     ensures { result.now ≡ trimmed text.now }
 {

@@ -1,7 +1,7 @@
 // Why a call is refused: the refusals 1 to 5 of the rules.
-ghost use Rattle.std.specs.Prelude.{◌≡◌};
-ghost use Rattle.lines.specs.Answers.{number_of, place_of};
+ghost use Rattle.lines.specs.Answers.{number_of, place_of, never_0};
 
+use crate::refusal::Refusal;
 use std::fmt;
 
 // A fault in a line carries the line's number.
@@ -14,11 +14,14 @@ pub enum Error {
     LineTooLong(usize),
 }
 
-impl Error {
-    // The number of the refusal.
-    pub fn number(self) -> usize
-        ensures { result ≡ number_of self }
-    {
+impl Refusal for Error {
+    ghost number_is = { number_of };
+
+    ghost place_is = { place_of };
+
+    ghost never_0 = { never_0 };
+
+    fn number(self) -> usize {
         match self {
             Error::ShortBuffer => 1,
             Error::FileTooLong => 2,
@@ -29,9 +32,7 @@ impl Error {
     }
 
     // Its place: a line, or 0.
-    pub fn place(self) -> usize
-        ensures { result ≡ place_of self }
-    {
+    fn place(self) -> usize {
         match self {
             Error::ShortBuffer | Error::FileTooLong => 0,
             Error::NotUtf8(line) | Error::ControlByte(line) | Error::LineTooLong(line) => line,

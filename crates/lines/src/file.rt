@@ -7,6 +7,7 @@ use crate::error::Error;
 use crate::utf8::well_formed_length;
 
 // More than 65,535 bytes, where a file that is not empty and does not end in LF counts one more.
+#[tactic(auto, using(crate::proofs::FileLaws::size_below, crate::proofs::FileLaws::size_over, crate::proofs::FileLaws::size_at))]
 fn too_long(file: &[u8]) -> bool
     ensures { result ≡ ltb 65535 (size file.now) }
 {
@@ -42,6 +43,7 @@ fn check_bytes(file: &[u8]) -> Result<(), Error>
 }
 
 // What is judged of a whole file: its size, UTF-8, control bytes.
+#[tactic(auto, unfolding(crate::specs::Files::checked_file))]
 pub fn check_file(file: &[u8]) -> Result<(), Error>
     ensures { check_means result ≡ checked_file file.now }
 {

@@ -6,6 +6,7 @@ mod error;
 mod file;
 mod joiner;
 mod physical;
+mod refusal;
 mod utf8;
 
 pub use bytes::{
@@ -16,4 +17,5 @@ pub use error::Error;
 pub use file::check_file;
 pub use joiner::{Cursor, LogicalLine, next_line};
 pub use physical::is_continued;
+pub use refusal::Refusal;
 pub use utf8::well_formed_length;

@@ -5,6 +5,7 @@ ghost use Rattle.lines.specs.Utf8.{longest_start};
 use std::str;
 
 // The length of the longest well-formed start.
+#[tactic(auto, using(crate::proofs::StdUtf8::length_of_std, crate::proofs::StdUtf8::valid_len_of_std))]
 pub fn well_formed_length(text: &[u8]) -> usize
     ensures { result ≡ longest_start text.now }
 {

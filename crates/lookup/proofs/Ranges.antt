@@ -1,6 +1,6 @@
 -- What `all` and `find` over the indexes below a number say of the numbers: `(0..n).all(..)` and `(0..n).rev().find(..)`.
 use mathlib.Core.Path.{◌≡◌, refl, sym, ap, subst, ◌∙◌}
-use Prim.Native.Nat.{ℕ, zero, suc, ◌+◌, ◌-◌, ◌≤◌, ◌<◌}
+use Prim.Native.Nat.{ℕ, ◌+◌, ◌-◌, ◌≤◌, ◌<◌}
 use native.Mathlib.Omega.{arith}
 use mathlib.Core.Bool.{Bool, true, false, true≢false}
 use lib.Dec.{leb}
@@ -45,7 +45,7 @@ module _ {F : Type 0} {g : Mut F (ℕ × Unit {0}) Bool} (f : F) (test : ℕ →
       by_cases (leb i s.start)
       (λ q. let e : x ≡ i = omega (arith, y.1.1.1, leb-true i s.start q) in subst (λ (a : ℕ). test a ≡ true) e k.1)
       (λ q. from_start xs v t u o j y.2 d (subst (λ (w : F). FoldsTo (λ p a q. Called g p (a, tt) true q) w xs j) k.0 l.2) c i
-          (omega (arith, y.1.1.2, leb-false i s.start q)) (omega (arith, y.1.0)))
+      (omega (arith, y.1.1.2, leb-false i s.start q)) (omega (arith, y.1.0)))
 
   pub each_from_all : (n : ℕ) (u : Range ℕ)
       → (xs : List ℕ) × (o : Option ℕ) × (j : F) × YieldsThen nat_range_steps (record { start = 0; end = n }) xs o u

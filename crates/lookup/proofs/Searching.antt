@@ -3,19 +3,19 @@ use mathlib.Core.Path.{◌≡◌, refl, sym, ap, ◌∙◌}
 use Prim.Native.Nat.{ℕ, zero, suc, ◌+◌, ◌-◌, ◌*◌, ◌≤◌, ◌<◌}
 use native.Mathlib.Nat.{add-zero, zero-add}
 use native.Mathlib.Omega.{arith}
-use mathlib.Core.Bool.{Bool, true, false, ◌&&◌}
+use mathlib.Core.Bool.{Bool, true, false}
 use mathlib.Core.Option.{Option, none, some}
 use Rattle.std.specs.Prelude as prelude
 use Rattle.std.specs.Prelude.{None, Some, MatchOption}
 use mathlib.Core.List.{List, [], ◌∷◌, ◌++◌}
-use lib.ListN.{length, take, drop, get_or}
+use lib.ListN.{length, take, drop}
 use lib.Seq.{drop-length}
-use Rattle.lines.specs.Bytes.{Bytes, equal}
+use Rattle.lines.specs.Bytes.{Bytes}
 use Rattle.lines.proofs.Bools.{by_cases}
 use Rattle.table.specs.Tables.{Entry}
 use Rattle.lookup.specs.Decoding.{part, Lent, Decoded, table_in}
 use Rattle.lookup.specs.Questions.{is_entry, indexes_from, first_of, last_of, asked}
-use Rattle.lookup.specs.Steps.{there, entry_of, matches_at, matches, IsFirst, IsLast, IsAsked, EntryInside}
+use Rattle.lookup.specs.Steps.{there, entry_of, matches_at, matches, IsFirst, IsAsked, EntryInside}
 use Rattle.lookup.specs.declared.search.Which.{Which}
 use Rattle.lookup.specs.declared.search.Which.TheVariants.{First, Last}
 use Rattle.lookup.proofs.Decoded.{which_there, entries_count, table_halves, entry_of_lem, good_of, name_of}
@@ -51,16 +51,6 @@ pub lent-part : (text : Bytes) (a n : ℕ) → take (a + n - a) (drop a text) �
 lent-part text a n =
     let e : a + n - a ≡ n = omega arith in
     rw e
-
-pub part_same : (x text : Bytes) (a n : ℕ) (r : Bool) → r ≡ equal x (take (a + n - a) (drop a text)) → r ≡ equal x (part text a n)
-part_same x text a n r e = e ∙ ap (equal x) (lent-part text a n)
-
--- the code compares the key first
-pub key_first : (name key r : Bool) → r ≡ (key && name) → r ≡ (name && key)
-key_first true true r e = e
-key_first true false r e = e
-key_first false true r e = e
-key_first false false r e = e
 
 -- ---- lists of indexes
 
@@ -137,9 +127,9 @@ module _ (b : Lent) (x k : Bytes) where
     finds Last None h = rw (ahead b.entry_count (omega arith) h, past_all t e)
     finds Last (Some i) h =
         let p : indexes_from i t.names x k (drop i t.entries) ≡ i ∷ [] =
-            yes i h.0 t e h.1 ∙ ap (λ (l : List ℕ). i ∷ l) (behind (b.entry_count - suc i) (suc i) (omega (arith, h.0)) (λ j l m. h.2 j (omega arith) m)) in
+        yes i h.0 t e h.1 ∙ ap (λ (l : List ℕ). i ∷ l) (behind (b.entry_count - suc i) (suc i) (omega (arith, h.0)) (λ j l m. h.2 j (omega arith) m)) in
         let s : indexes_from 0 t.names x k t.entries ≡ indexes_from 0 t.names x k (take i t.entries) ++ i ∷ [] =
-            indexes_split t.entries 0 i t.names x k ∙ ap (λ (l : List ℕ). indexes_from 0 t.names x k (take i t.entries) ++ l) (rw zero-add p) in
+        indexes_split t.entries 0 i t.names x k ∙ ap (λ (l : List ℕ). indexes_from 0 t.names x k (take i t.entries) ++ l) (rw zero-add p) in
         rw (s, last_behind (indexes_from 0 t.names x k (take i t.entries)) i)
 
 -- `find` over the indexes from 0 on

@@ -111,8 +111,8 @@ module _ (b : Lent) where
       by_cases r
       (λ q. q ∙ sym (halves b ∙ both _ _ (names-there b (sound q)) (entries_there b (sound q))))
       (λ q. by_cases (there (table_in b))
-          (λ t. let w = which_there (table_in b) t in absurd (true≢false (sym (full (table_sound b w.0 w.1)) ∙ q)))
-          (λ t. q ∙ sym t))
+      (λ t. let w = which_there (table_in b) t in absurd (true≢false (sym (full (table_sound b w.0 w.1)) ∙ q)))
+      (λ t. q ∙ sym t))
 
 pub table_counts : TableCounts
 table_counts b t e =

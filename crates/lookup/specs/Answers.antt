@@ -1,5 +1,6 @@
 -- What the answers of the calls mean in the rules, and what they promise.
-use Rattle.std.specs.Prelude.{◌≡◌, ℕ, ◌+◌, [], Result, Ok, Err}
+use mathlib.Core.Path.{refl}
+use Rattle.std.specs.Prelude.{◌≡◌, ℕ, ◌+◌, [], Result, Ok, Err, false, eqb}
 use Rattle.lines.specs.Bytes.{Bytes}
 use Rattle.lines.specs.Answers.{Outcome, accepted, refused}
 use Rattle.lookup.specs.Decoding.{Lent}
@@ -19,6 +20,11 @@ number_of FaultyRecord = 41
 abbrev pub place_of : Error → ℕ
 place_of NoEntry = 0
 place_of FaultyRecord = 0
+
+-- none has the number 0
+pub never_0 : (e : Error) → eqb (number_of e) 0 ≡ false
+never_0 NoEntry = refl
+never_0 FaultyRecord = refl
 
 -- an error is a refusal
 abbrev pub error_means : {A : Type 0} → Error → Outcome A

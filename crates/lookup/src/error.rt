@@ -1,7 +1,7 @@
 // Why a question is refused: the refusals 40 and 41 of the rules.
-ghost use Rattle.std.specs.Prelude.{◌≡◌};
-ghost use Rattle.lookup.specs.Answers.{number_of, place_of};
+ghost use Rattle.lookup.specs.Answers.{number_of, place_of, never_0};
 
+use lines::Refusal;
 use std::fmt;
 
 #[derive(Clone, Copy, Debug, PartialEq, Eq)]
@@ -11,11 +11,14 @@ pub enum Error {
     FaultyRecord,
 }
 
-impl Error {
-    // The number of the refusal.
-    pub fn number(self) -> usize
-        ensures { result ≡ number_of self }
-    {
+impl Refusal for Error {
+    ghost number_is = { number_of };
+
+    ghost place_is = { place_of };
+
+    ghost never_0 = { never_0 };
+
+    fn number(self) -> usize {
         match self {
             Error::NoEntry => 40,
             Error::FaultyRecord => 41,
@@ -23,9 +26,7 @@ impl Error {
     }
 
     // Its place.
-    pub fn place(self) -> usize
-        ensures { result ≡ place_of self }
-    {
+    fn place(self) -> usize {
         match self {
             Error::NoEntry | Error::FaultyRecord => 0,
         }

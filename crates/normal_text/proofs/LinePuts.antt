@@ -28,9 +28,6 @@ module _ (d : Bytes) (at : ℕ) (x d' : Bytes) (h : at + (length x + 3) ≤ leng
       puts_then (omega arith) (puts_byte d at 0x5B (omega arith))
       (puts_copied (set d at 0x5B) (at + 1) x d' (omega (arith, length-set d at 0x5B)) e)
 
-  pub header_kept : length d' ≡ length d
-  header_kept = puts_length (omega arith) name_put
-
   pub header_put : Puts d at (with_lf (header_line x)) (at + 1 + length x + 2) (set (set d' (at + 1 + length x) 0x5D) (at + 1 + length x + 1) 0x0A)
   unfolding header_line
   header_put =

@@ -153,10 +153,6 @@ module _ (b : Lent) (j : ℕ) where
         putting = putting_more p.putting (with_lf (entry_line (pair_of (said i)))) (entries_text j (drop (suc i) es)) end' d'' entry_next q;
       }
 
-  module _ (d : Bytes) (at : ℕ) (next : Option ℕ) (end : ℕ) (d' : Bytes) (p : EntriesPut d at next end d') where
-    pub entries-length : length d' ≡ length d
-    entries-length = putting_length p.putting
-
   pub entries_end : (d : Bytes) (at end : ℕ) (d' : Bytes) → EntriesPut d at None end d' → Puts d at (entries_text j es) end d'
   entries_end d at end d' p =
       putting_end p.putting (ap (λ (l : List Pair). written (entry_lines l)) p.leads ∙ entries_none)
@@ -170,9 +166,6 @@ module _ (text : Bytes) (ns : List ℕ) (m : ℕ) (es : List Entry) where
 
   pub record SectionsPut (d : Bytes) (j end : ℕ) (d' : Bytes) : Type 0 where
     pub putting : Putting (normal_text (sections_from pair_of 0 (names_at text ns m) es)) (normal_text (ahead j)) d 0 end d'
-
-  pub sections_start : (d : Bytes) → length (normal_text (sections_from pair_of 0 (names_at text ns m) es)) ≤ length d → SectionsPut d 0 0 d
-  sections_start d h = record { putting = putting_start (normal_text (sections_from pair_of 0 (names_at text ns m) es)) d 0 (omega (arith, h)) }
 
   module _ (d : Bytes) (j end : ℕ) (d' : Bytes) (p : SectionsPut d j end d') where
     module _ (h : j < m) where
@@ -201,9 +194,6 @@ module _ (text : Bytes) (ns : List ℕ) (m : ℕ) (es : List Entry) where
             let z : suc j ≡ j + 1 = omega arith in
             subst (λ (i : ℕ). SectionsPut d i end'' d''') z
             (record { putting = putting_more header_done (entries_text j es) (normal_text (ahead (suc j))) end'' d''' refl r })
-
-    pub sections_length : length d' ≡ length d
-    sections_length = putting_length p.putting
 
     pub sections_end : m ≤ j → Puts d 0 (normal_text (sections_from pair_of 0 (names_at text ns m) es)) end d'
     unfolding sections_from

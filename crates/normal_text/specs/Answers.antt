@@ -4,7 +4,6 @@ use Rattle.lines.specs.Bytes.{Bytes}
 use Rattle.lines.specs.Answers.{Outcome, accepted, refused}
 use Rattle.lines.specs.Buffers.{filled}
 use Rattle.table.specs.Tables.{Table}
-use Rattle.table.specs.declared.state.Counts.{Counts}
 use Rattle.table.specs.Answers.{error_means, counts_of, TableLeft, read_in}
 use Rattle.normal_text.specs.Sections.{sections_of}
 use Rattle.normal_text.specs.NormalText.{normal_text}

@@ -1,4 +1,5 @@
 -- One event more in the buffers: its text behind the text, its record behind the records, and its counts.
+use Rattle.std.specs.Prelude.{Option as CodeOption, Some}
 use Rattle.std.proofs.Common.{◌≡◌, ℕ, ◌+◌, ◌*◌, ◌≤◌, List, [], ◌∷◌, ◌++◌, length, refl, sym, ap, ◌∙◌, append-nil, zero-add, arith, length-append}
 use mathlib.Core.Option.{none, some}
 use Rattle.lines.specs.Bytes.{Bytes}
@@ -34,7 +35,7 @@ module _ (es : List Event) (v : Event) where
     numbers_kept q = records_more ∙ rw q (append-nil (records_from f 0 es))
 
 -- counts that are the same
-pub same_counts : (a a' b b' n n' c c' : ℕ) → a ≡ a' → b ≡ b' → n ≡ n' → c ≡ c'
+pub same_counts : (a a' b b' n n' : ℕ) (c c' : CodeOption ℕ) → a ≡ a' → b ≡ b' → n ≡ n' → c ≡ c'
     → ◌≡◌ {A = State} (record { text = a; sections = b; entries = n; current = c }) (record { text = a'; sections = b'; entries = n'; current = c' })
 same_counts a a' b b' n n' c c' p q r s = rw (p, q, r, s)
 
@@ -45,14 +46,14 @@ module _ (t : Table) (d : Bytes) (e g : List ℕ) (x : Bytes) (new : index_of x 
     text = length (text_of t.events) + length x;
     sections = length (names t.events) + 1;
     entries = length (entries t.events);
-    current = length (names t.events) + 1;
+    current = Some (length (names t.events));
   } ≡ state_of (with t (new_section x) (length (names t.events)))
   section_state =
       same_counts _ _ _ _ _ _ _ _
       (sym (text_length t.events (new_section x)))
       (sym (ap length (names_section t.events x) ∙ length-append (names t.events) (x ∷ [])))
       (sym (ap length (entries_section t.events x)))
-      (omega arith)
+      refl
 
   pub section_held : (b b' : Builder) → Holds t b d e g → SectionPut x b b'
       → Holds (with t (new_section x) (length (names t.events))) b' d e g
@@ -61,7 +62,7 @@ module _ (t : Table) (d : Bytes) (e g : List ℕ) (x : Bytes) (new : index_of x 
         apart = rw names_section (apart_snoc (names t.events) [] x h.apart new);
         state =
             p.state
-            ∙ ap (λ (z : State). record { text = z.text + length x; sections = z.sections + 1; entries = z.entries; current = z.sections + 1 }) h.state
+            ∙ ap (λ (z : State). record { text = z.text + length x; sections = z.sections + 1; entries = z.entries; current = Some z.sections }) h.state
             ∙ section_state;
         text_is =
             p.text_put ∙ ap (λ (z : Bytes). put z b.state.text x) h.text_is

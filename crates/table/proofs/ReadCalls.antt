@@ -1,6 +1,6 @@
 -- A call of `read`, by its answer: each refusal, and the table that was read and copied.
 use Rattle.std.specs.Prelude.{Ok, Err, Result}
-use Rattle.std.proofs.Common.{◌≡◌, ℕ, ◌+◌, ◌-◌, ◌*◌, ◌<◌, ◌≤◌, cond, ltb, leb, List, length, take, sym, refl, ap, ◌∙◌, subst, arith, ltb-false, ltb-true, le-ltb, lt-ltb}
+use Rattle.std.proofs.Common.{◌≡◌, ℕ, ◌+◌, ◌-◌, ◌*◌, ◌<◌, ◌≤◌, cond, ltb, leb, List, length, take, sym, refl, ap, ◌∙◌, subst, arith, ltb-false, ltb-true, le-ltb, lt-ltb, ◌⊎◌, inl, inr}
 use Rattle.lines.specs.Bytes.{Bytes}
 use Rattle.lines.specs.Lines.{logical}
 use Rattle.lines.specs.Answers.{Outcome, accepted, refused}
@@ -108,32 +108,28 @@ module _ (f text : Bytes) (sections entries : List ℕ) where
       → Reads f text sections entries (Err (File ShortBuffer)) text sections entries
   short e = leaves_refused _ (File ShortBuffer) e text sections entries
 
-  pub short_text : length text < 65535 → Reads f text sections entries (Err (File ShortBuffer)) text sections entries
+  -- a short buffer
+  pub short_buffers : length text < 65535
+      ⊎ ((65535 ≤ length text) × (length sections < 128) ⊎ (65535 ≤ length text) × (128 ≤ length sections) × (length entries < 2560))
+      → Reads f text sections entries (Err (File ShortBuffer)) text sections entries
   unfolding read_in
-  short_text h = short (rw (lt-ltb (length text) 65535 h))
+  short_buffers (inl h) = short (rw (lt-ltb (length text) 65535 h))
+  short_buffers (inr (inl h)) = short (rw (le-ltb (length text) 65535 h.0, lt-ltb (length sections) 128 h.1))
+  short_buffers (inr (inr h)) =
+      short (rw (le-ltb (length text) 65535 h.0, le-ltb (length sections) 128 h.1, lt-ltb (length entries) 2560 h.2))
 
-  module _ (ht : 65535 ≤ length text) where
-    pub short_sections : length sections < 128 → Reads f text sections entries (Err (File ShortBuffer)) text sections entries
-    unfolding read_in
-    short_sections h = short (rw (le-ltb (length text) 65535 ht, lt-ltb (length sections) 128 h))
+  module _ (ht : 65535 ≤ length text) (hs : 128 ≤ length sections) (he : 2560 ≤ length entries) where
+    enough : read_in (length text) (length sections) (length entries) f ≡ verdict f
+    enough = enough_space (length text) (length sections) (length entries) f ht hs he
 
-    module _ (hs : 128 ≤ length sections) where
-      pub short_entries : length entries < 2560 → Reads f text sections entries (Err (File ShortBuffer)) text sections entries
-      unfolding read_in
-      short_entries h = short (rw (le-ltb (length text) 65535 ht, le-ltb (length sections) 128 hs, lt-ltb (length entries) 2560 h))
+    pub file_refused : (k : FileError) → file.error_means k ≡ checked_file f → Reads f text sections entries (Err (File k)) text sections entries
+    unfolding verdict and_then
+    file_refused k m = leaves_refused _ (File k) (enough ∙ rw (← m)) text sections entries
 
-      module _ (he : 2560 ≤ length entries) where
-        enough : read_in (length text) (length sections) (length entries) f ≡ verdict f
-        enough = enough_space (length text) (length sections) (length entries) f ht hs he
-
-        pub file_refused : (k : FileError) → file.error_means k ≡ checked_file f → Reads f text sections entries (Err (File k)) text sections entries
-        unfolding verdict and_then
-        file_refused k m = leaves_refused _ (File k) (enough ∙ rw (← m)) text sections entries
-
-        pub file_read : accepted tt ≡ checked_file f → (r : Result Counts Error) (text' : Bytes) (sections' entries' : List ℕ)
-            → ReadLeaves (run empty_table (logical f)) text sections entries r text' sections' entries'
-            → Reads f text sections entries r text' sections' entries'
-        unfolding verdict and_then
-        file_read m r text' sections' entries' h =
-            let v : read_in (length text) (length sections) (length entries) f ≡ run empty_table (logical f) = enough ∙ rw (← m) in
-            subst (λ (z : Outcome Table). ReadLeaves z text sections entries r text' sections' entries') (sym v) h
+    pub file_read : accepted tt ≡ checked_file f → (r : Result Counts Error) (text' : Bytes) (sections' entries' : List ℕ)
+        → ReadLeaves (run empty_table (logical f)) text sections entries r text' sections' entries'
+        → Reads f text sections entries r text' sections' entries'
+    unfolding verdict and_then
+    file_read m r text' sections' entries' h =
+        let v : read_in (length text) (length sections) (length entries) f ≡ run empty_table (logical f) = enough ∙ rw (← m) in
+        subst (λ (z : Outcome Table). ReadLeaves z text sections entries r text' sections' entries') (sym v) h

@@ -1,6 +1,6 @@
 -- One line more in a table that the buffers hold, by the tests that the code makes.
 use Rattle.std.specs.Prelude.{Option as CodeOption, Some, None, Ok, Err}
-use Rattle.std.proofs.Common.{◌≡◌, ℕ, ◌+◌, ◌-◌, ◌<◌, ◌≤◌, List, length, sym, refl, ap, ◌∙◌, subst, arith, le-ltb, lt-ltb}
+use Rattle.std.proofs.Common.{◌≡◌, ℕ, ◌<◌, ◌≤◌, List, length, sym, refl, ap, ◌∙◌, subst, arith, le-ltb, lt-ltb}
 use mathlib.Core.Option.{Option, none, some}
 use Rattle.lines.specs.Bytes.{Bytes}
 use Rattle.lines.specs.Buffers.{filled}
@@ -12,7 +12,7 @@ use Rattle.table.specs.declared.error.Error.TheVariants.{NoSection, TooMany}
 use Rattle.table.specs.declared.builder.Builder.{Builder}
 use Rattle.table.specs.declared.state.State.{State}
 use Rattle.table.proofs.Search.{table_known, table_new}
-use Rattle.table.proofs.Puts.{same_counts, section_held, entry-held}
+use Rattle.table.proofs.Puts.{section_held, entry-held}
 
 -- ---- a header
 
@@ -37,7 +37,7 @@ module _ (x : Bytes) (n : ℕ) (b : Builder) where
 
   -- it goes on with an earlier section
   pub header_known : (i : ℕ) → SectionFound x b.text b.state.sections b.sections (Some i) → (b' : Builder)
-      → b'.state ≡ record { text = b.state.text; sections = b.state.sections; entries = b.state.entries; current = i + 1 }
+      → b'.state ≡ record { text = b.state.text; sections = b.state.sections; entries = b.state.entries; current = Some i }
       → b'.text ≡ b.text → b'.sections ≡ b.sections → b'.entries ≡ b.entries
       → TakesLine (header x) n b (Ok tt) b'
   unfolding act opened
@@ -48,8 +48,7 @@ module _ (x : Bytes) (n : ℕ) (b : Builder) where
       apart = h.apart;
       state =
           s
-          ∙ ap (λ (z : State). record { text = z.text; sections = z.sections; entries = z.entries; current = i + 1 }) h.state
-          ∙ same_counts _ _ _ _ _ _ _ _ refl refl refl (omega arith);
+          ∙ ap (λ (z : State). record { text = z.text; sections = z.sections; entries = z.entries; current = Some i }) h.state;
       text_is = p ∙ h.text_is;
       sections_are = q ∙ h.sections_are;
       entries_are = r ∙ h.entries_are;
@@ -75,31 +74,25 @@ module _ (x : Bytes) (n : ℕ) (b : Builder) where
 -- ---- an entry
 
 -- what the section that is open says of the table
-open_in : (o : Option ℕ) → (current_of o ≡ 0 → ⊥) → o ≡ some (current_of o - 1)
-open_in none q = absurd (q refl)
-open_in (some j) q = ap some (omega arith)
+open_in : (o : Option ℕ) (i : ℕ) → current_of o ≡ Some i → o ≡ some i
+open_in none i q = cc
+open_in (some j) i q = cc
 
-open_out : (o : Option ℕ) → current_of o ≡ 0 → o ≡ none
+open_out : (o : Option ℕ) → current_of o ≡ None → o ≡ none
 open_out none q = refl
-open_out (some j) q = absurd (omega arith)
+open_out (some j) q = cc
 
 module _ (k v : Bytes) (n : ℕ) (b b' : Builder) where
   -- before any header
-  pub entry_outside : b.state.current ≡ 0 → TakesLine (entry k v) n b (Err (NoSection n)) b'
+  pub entry_outside : b.state.current ≡ None → TakesLine (entry k v) n b (Err (NoSection n)) b'
   unfolding act added
   entry_outside q t d e g h =
       let o : t.current ≡ none = open_out t.current (sym (ap (λ (z : State). z.current) h.state) ∙ q) in
       rw o
 
-  module _ (q : b.state.current ≡ 0 → ⊥) where
-    -- the index of the section that is open
-    abbrev i : ℕ
-    i = b.state.current - 1
-
+  module _ (i : ℕ) (q : b.state.current ≡ Some i) where
     inside : (t : Table) (d : Bytes) (e g : List ℕ) → Holds t b d e g → t.current ≡ some i
-    inside t d e g h =
-        let c : b.state.current ≡ current_of t.current = ap (λ (z : State). z.current) h.state in
-        open_in t.current (λ z. q (c ∙ z)) ∙ ap (λ (z : ℕ). some (z - 1)) (sym c)
+    inside t d e g h = open_in t.current i (sym (ap (λ (z : State). z.current) h.state) ∙ q)
 
     -- the 513th
     pub entry_many : 512 ≤ b.state.entries → TakesLine (entry k v) n b (Err (TooMany n)) b'

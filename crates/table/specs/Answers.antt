@@ -1,5 +1,6 @@
 -- What the answer of `read` means in the rules, and what a call leaves in the three buffers.
-use Rattle.std.specs.Prelude.{◌≡◌, ℕ, cond, ◌||◌, List, length, nat_lt, Result, Ok, Err}
+use mathlib.Core.Path.{refl}
+use Rattle.std.specs.Prelude.{◌≡◌, ℕ, cond, ◌||◌, List, length, nat_lt, Result, Ok, Err, false, eqb}
 use Rattle.lines.specs.Bytes.{Bytes}
 use Rattle.lines.specs.Answers.{Outcome, accepted, refused}
 use Rattle.lines.specs.Answers as file
@@ -29,6 +30,15 @@ place_of (NoEqualsSign n) = n
 place_of (BadKey n) = n
 place_of (NoSection n) = n
 place_of (TooMany n) = n
+
+-- none has the number 0
+pub never_0 : (e : Error) → eqb (number_of e) 0 ≡ false
+never_0 (File e) = file.never_0 e
+never_0 (BadHeader n) = refl
+never_0 (NoEqualsSign n) = refl
+never_0 (BadKey n) = refl
+never_0 (NoSection n) = refl
+never_0 (TooMany n) = refl
 
 -- an error is a refusal
 abbrev pub error_means : {A : Type 0} → Error → Outcome A

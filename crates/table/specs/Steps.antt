@@ -51,10 +51,10 @@ SectionFound x text n ns None = first_named x text n ns ≡ n
 
 -- ---- the state of a table
 
--- the section that is open: 0 before any header, else one more than its index
-abbrev pub current_of : Option ℕ → ℕ
-current_of none = 0
-current_of (some i) = suc i
+-- the index of the section that is open, none before any header
+abbrev pub current_of : Option ℕ → CodeOption ℕ
+current_of none = None
+current_of (some i) = Some i
 
 -- how much of the buffers it uses
 abbrev pub state_of : Table → State
@@ -67,7 +67,7 @@ state_of t = record {
 
 -- a section behind the others, which is open then
 pub record SectionPut (x : Bytes) (b b' : Builder) : Type 0 where
-  pub state : b'.state ≡ record { text = b.state.text + length x; sections = b.state.sections + 1; entries = b.state.entries; current = b.state.sections + 1 }
+  pub state : b'.state ≡ record { text = b.state.text + length x; sections = b.state.sections + 1; entries = b.state.entries; current = Some b.state.sections }
   pub text_put : b'.text ≡ put b.text b.state.text x
   pub numbers_put : b'.sections ≡ put b.sections (2 * b.state.sections) (b.state.text ∷ length x ∷ [])
   pub entries_kept : b'.entries ≡ b.entries

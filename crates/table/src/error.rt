@@ -1,8 +1,9 @@
 // Why a file is refused: the refusals 1 to 10 of the rules.
 ghost use Rattle.std.specs.Prelude.{◌≡◌};
-ghost use Rattle.table.specs.Answers.{number_of, place_of};
+ghost use Rattle.table.specs.Answers.{number_of, place_of, never_0};
 ghost use Rattle.table.specs.declared.error.Error.TheVariants.{File};
 
+use lines::Refusal;
 use std::fmt;
 
 // A fault in a line carries the number of the first physical line of it.
@@ -19,11 +20,14 @@ pub enum Error {
     TooMany(usize),
 }
 
-impl Error {
-    // The number of the refusal.
-    pub fn number(self) -> usize
-        ensures { result ≡ number_of self }
-    {
+impl Refusal for Error {
+    ghost number_is = { number_of };
+
+    ghost place_is = { place_of };
+
+    ghost never_0 = { never_0 };
+
+    fn number(self) -> usize {
         match self {
             Error::File(e) => e.number(),
             Error::BadHeader(_) => 6,
@@ -35,9 +39,7 @@ impl Error {
     }
 
     // Its place: a line, or 0.
-    pub fn place(self) -> usize
-        ensures { result ≡ place_of self }
-    {
+    fn place(self) -> usize {
         match self {
             Error::File(e) => e.place(),
             Error::BadHeader(line)

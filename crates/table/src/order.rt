@@ -5,6 +5,8 @@
 // takes the guess looks whether the name stands there.
 ghost use Rattle.std.specs.Prelude.{◌≡◌, ◌^◌, ◌<◌, ◌≤◌, length, if◌then◌else◌, nat_lt};
 
+use std::cmp::Ordering;
+
 const MOST_SECTIONS: usize = 64;
 
 // ---- names
@@ -49,10 +51,15 @@ impl Place {
     // Whether it stands before a name with this number, among the places whose number is not below it.
     fn is_before(self, number: usize, name: &[u8], text: &[u8], sections: &[usize]) -> bool {
         self.number == number
-            && name_at(self.section, text, sections).is_some_and(|other| {
-                other.len() < name.len() || other.len() == name.len() && other < name
-            })
+            && name_at(self.section, text, sections).is_some_and(|other| by_length(
+                other, name,
+            ).is_lt())
     }
+}
+
+// The order of names with the same number: by their lengths, and then byte for byte.
+fn by_length(a: &[u8], b: &[u8]) -> Ordering {
+    a.len().cmp(&b.len()).then_with(|| a.cmp(b))
 }
 
 // The name of the section with an index, if its two numbers are there and the name is inside the text.

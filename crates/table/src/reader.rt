@@ -79,13 +79,10 @@ pub fn read(
 ) -> Result<Counts, Error>
     ensures { Reads file.now text.old sections.old entries.old result text.new sections.new entries.new }
 {
-    if text.len() < TEXT_BYTES {
-        return Err(Error::File(lines::Error::ShortBuffer));
-    }
-    if sections.len() < SECTION_NUMBERS {
-        return Err(Error::File(lines::Error::ShortBuffer));
-    }
-    if entries.len() < ENTRY_NUMBERS {
+    if text.len() < TEXT_BYTES
+        || sections.len() < SECTION_NUMBERS
+        || entries.len() < ENTRY_NUMBERS
+    {
         return Err(Error::File(lines::Error::ShortBuffer));
     }
     lines::check_file(file)?;

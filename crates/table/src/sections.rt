@@ -68,7 +68,7 @@ impl Builder {
             text: start + name.len(),
             sections: count + 1,
             entries: self.state.entries,
-            current: count + 1,
+            current: Some(count),
         };
     }
 
@@ -78,7 +78,7 @@ impl Builder {
         ensures { TakesLine (header name.now) number self.old result self.new }
     {
         if let Some(index) = self.find_section(name) {
-            self.state.current = index + 1;
+            self.state.current = Some(index);
             return Ok(());
         }
         if 64 <= self.state.sections {

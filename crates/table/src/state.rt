@@ -11,14 +11,14 @@ pub struct Counts {
     pub entries: usize,
 }
 
-// How much of the buffers is used: text bytes, sections and entries; and the section that is open: 0 before any header,
-// else one more than its index.
+// How much of the buffers is used: text bytes, sections and entries; and the index of the section that is open, none
+// before any header.
 #[derive(Clone, Copy)]
 pub(crate) struct State {
     pub text: usize,
     pub sections: usize,
     pub entries: usize,
-    pub current: usize,
+    pub current: Option<usize>,
 }
 
 impl State {
@@ -30,7 +30,7 @@ impl State {
             text: 0,
             sections: 0,
             entries: 0,
-            current: 0,
+            current: None,
         }
     }
 

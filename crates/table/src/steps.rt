@@ -35,14 +35,13 @@ impl Builder {
         requires { self.old.state.text + length key.now + length value.now ≤ 65535 }
         ensures { TakesLine (entry key.now value.now) number self.old result self.new }
     {
-        let current = self.state.current;
-        if current == 0 {
+        let Some(section) = self.state.current else {
             return Err(Error::NoSection(number));
-        }
+        };
         if 512 <= self.state.entries {
             return Err(Error::TooMany(number));
         }
-        self.put_entry(current - 1, key, value);
+        self.put_entry(section, key, value);
         Ok(())
     }
 

@@ -1,5 +1,6 @@
 -- What the answers mean in the rules.
-use Rattle.std.specs.Prelude.{ℕ, Bool, Result, Ok, Err}
+use mathlib.Core.Path.{refl}
+use Rattle.std.specs.Prelude.{ℕ, Bool, Result, Ok, Err, ◌≡◌, false, eqb}
 use Rattle.lines.specs.Answers.{Outcome, accepted, refused}
 use Rattle.values.specs.declared.error.Error.{Error}
 use Rattle.values.specs.declared.error.Error.TheVariants.{NoBoolean, SpanForm, SpanTooLarge}
@@ -15,6 +16,12 @@ abbrev pub place_of : Error → ℕ
 place_of NoBoolean = 0
 place_of SpanForm = 0
 place_of SpanTooLarge = 0
+
+-- none has the number 0
+pub never_0 : (e : Error) → eqb (number_of e) 0 ≡ false
+never_0 NoBoolean = refl
+never_0 SpanForm = refl
+never_0 SpanTooLarge = refl
 
 -- an error is a refusal
 abbrev pub error_means : {A : Type 0} → Error → Outcome A

@@ -1,7 +1,7 @@
 // Why a value is refused: the refusals 30 to 32 of the rules.
-ghost use Rattle.std.specs.Prelude.{◌≡◌};
-ghost use Rattle.values.specs.Answers.{number_of, place_of};
+ghost use Rattle.values.specs.Answers.{number_of, place_of, never_0};
 
+use lines::Refusal;
 use std::fmt;
 
 #[derive(Clone, Copy, Debug, PartialEq, Eq)]
@@ -11,11 +11,14 @@ pub enum Error {
     SpanTooLarge,
 }
 
-impl Error {
-    // The number of the refusal.
-    pub fn number(self) -> usize
-        ensures { result ≡ number_of self }
-    {
+impl Refusal for Error {
+    ghost number_is = { number_of };
+
+    ghost place_is = { place_of };
+
+    ghost never_0 = { never_0 };
+
+    fn number(self) -> usize {
         match self {
             Error::NoBoolean => 30,
             Error::SpanForm => 31,
@@ -24,16 +27,13 @@ impl Error {
     }
 
     // Its place, which is 0 for a value.
-    pub fn place(self) -> usize
-        ensures { result ≡ place_of self }
-    {
+    fn place(self) -> usize {
         match self {
             Error::NoBoolean | Error::SpanForm | Error::SpanTooLarge => 0,
         }
     }
 }
 
-// As the programs print it: `refused N at P`.
 impl fmt::Display for Error {
     fn fmt<W: fmt::Write>(&self, f: &mut fmt::Formatter<W>) -> fmt::Result {
         write!(f, "refused {} at {}", self.number(), self.place())

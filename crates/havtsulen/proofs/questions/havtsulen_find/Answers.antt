@@ -1,17 +1,12 @@
 -- `havtsulen_find`: a short report, or what the function below it has answered.
 use native.Mathlib.Omega.{arith}
 use Rattle.lookup.specs.Decoding.{lent}
-use Rattle.havtsulen.proofs.QuestionCalls.{find_short, find_accepted, find_refused}
+use Rattle.havtsulen.proofs.QuestionCalls.{find_short, find_told}
 use Rattle.havtsulen.proofs.questions.havtsulen_find.Goals as goal
 
 pub returns-then-report-lt-REPORT_NUMBERS : goal.returns-then-report-lt-REPORT_NUMBERS
-returns-then-report-lt-REPORT_NUMBERS c = let a = c.args in
-    find_short (lent a.text.now a.sections.now a.section_count a.entries.now a.entry_count) a.which a.section.now a.key.now a.report.now (omega (arith, c.if-report-lt-REPORT_NUMBERS.true))
+returns-then-report-lt-REPORT_NUMBERS c =
+    let a = c.args in find_short (lent a.text.now a.sections.now a.section_count a.entries.now a.entry_count) a.which a.section.now a.key.now a.report.now (omega (arith, c.if-report-lt-REPORT_NUMBERS.true))
 
-pub returns-in-Ok : goal.returns-in-Ok
-returns-in-Ok c = let a = c.args in
-    find_accepted (lent a.text.now a.sections.now a.section_count a.entries.now a.entry_count) a.which a.section.now a.key.now a.report.now c.if-report-lt-REPORT_NUMBERS.false _ c.which_of.ensures c.find.result c.find.ensures _ _ _ c.in-Ok.is c.reply.ensures
-
-pub returns-in-Err : goal.returns-in-Err
-returns-in-Err c = let a = c.args in
-    find_refused (lent a.text.now a.sections.now a.section_count a.entries.now a.entry_count) a.which a.section.now a.key.now a.report.now c.if-report-lt-REPORT_NUMBERS.false _ c.which_of.ensures c.find.result c.find.ensures _ _ _ c.in-Err.is _ _ c.number.ensures c.place.ensures c.reply-in-Err.ensures
+pub returns : goal.returns
+returns c = let a = c.args in find_told (lent a.text.now a.sections.now a.section_count a.entries.now a.entry_count) a.which a.section.now a.key.now a.report.now c.if-report-lt-REPORT_NUMBERS.false _ c.which_of.ensures _ c.find.ensures _ _ c.tell.ensures

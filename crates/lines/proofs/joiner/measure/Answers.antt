@@ -6,18 +6,6 @@ use Rattle.lines.proofs.joiner.measure.Goals as goal
 pub loop-c-init : goal.loop-c-init
 loop-c-init c = walk_start c.args.file.now c.args.start c.requires
 
-pub physical_line-p-requires : goal.physical_line-p-requires
-physical_line-p-requires c = record { inside = omega arith; number = c.loop-c.invariant.number }
-
-pub slice_bounds-piece_of-count : goal.slice_bounds-piece_of-count
-slice_bounds-piece_of-count c = omega (arith, c.physical_line-p.ensures.starts, c.physical_line-p.ensures.stops)
-
-pub slice_bounds-piece_of-start : goal.slice_bounds-piece_of-start
-slice_bounds-piece_of-start c = omega (arith, c.physical_line-p.ensures.starts, c.physical_line-p.ensures.stops)
-
-pub slice_bounds-piece_of-end : goal.slice_bounds-piece_of-end
-slice_bounds-piece_of-end c = omega (arith, c.physical_line-p.ensures.starts, c.physical_line-p.ensures.stops)
-
 pub overflow_add-length : goal.overflow_add-length
 overflow_add-length c =
     let f = c.args.file.now in
@@ -33,9 +21,6 @@ returns-then-q c =
     let p = c.physical_line-p in
     let q = c.piece_of-q in
     measured_line f _ l.c l.length l.invariant p.result p.ensures q.result q.ensures c.if-q.true
-
-pub loop-c-smaller : goal.loop-c-smaller
-loop-c-smaller c = omega (arith, c.physical_line-p.ensures.later, c.physical_line-p.ensures.onward.inside)
 
 pub loop-c-preserved : goal.loop-c-preserved
 loop-c-preserved c =

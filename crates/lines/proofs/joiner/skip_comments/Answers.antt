@@ -11,21 +11,6 @@ pub loop-c-init : goal.loop-c-init
 loop-c-init c =
     (onward_here c.args.file.now c.args.start c.requires.0, c.requires.1, refl)
 
-pub returns-then-not-is_comment : goal.returns-then-not-is_comment
-returns-then-not-is_comment c =
-    let f = c.args.file.now in
-    let l = c.loop-c in
-    record {
-      onward = l.invariant.0;
-      lines = l.invariant.2;
-      stands = ap comment (sym (part_from l.c.offset f)) ∙ sym c.is_comment.ensures ∙ c.if-not-is_comment.true;
-    }
-
-pub physical_line-p-requires : goal.physical_line-p-requires
-physical_line-p-requires c =
-    let l = c.loop-c in
-    record { inside = omega arith; number = l.invariant.1 }
-
 pub loop-c-preserved : goal.loop-c-preserved
 loop-c-preserved c =
     let f = c.args.file.now in

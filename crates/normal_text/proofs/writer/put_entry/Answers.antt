@@ -17,11 +17,5 @@ put_value-end-requires c = let l = entry_length c.args.key.now c.args.value.now 
 pub bounds-out-end : goal.bounds-out-end
 bounds-out-end c = omega (arith, line_inside c.args.out.now c.args.at c.args.key.now c.args.value.now _ c.requires c.copy_into.ensures.held _ _ c.put_value-end.ensures, line_kept c.args.out.now c.args.at c.args.key.now c.args.value.now _ c.requires c.copy_into.ensures.held _ _ c.put_value-end.ensures)
 
-pub overflow_add-result : goal.overflow_add-result
-overflow_add-result c = omega (arith, line_inside c.args.out.now c.args.at c.args.key.now c.args.value.now _ c.requires c.copy_into.ensures.held _ _ c.put_value-end.ensures, line_kept c.args.out.now c.args.at c.args.key.now c.args.value.now _ c.requires c.copy_into.ensures.held _ _ c.put_value-end.ensures)
-
-pub shape_of-out : goal.shape_of-out
-shape_of-out c = simp length-set (line_kept c.args.out.now c.args.at c.args.key.now c.args.value.now _ c.requires c.copy_into.ensures.held _ _ c.put_value-end.ensures)
-
 pub returns : goal.returns
 returns c = entry-put c.args.out.now c.args.at c.args.key.now c.args.value.now _ c.requires c.copy_into.ensures.held _ _ c.put_value-end.ensures

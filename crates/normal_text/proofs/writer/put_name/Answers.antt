@@ -10,7 +10,3 @@ use Rattle.normal_text.proofs.writer.put_name.Goals as goal
 pub put_header-requires : goal.put_header-requires
 put_header-requires c = let a = c.args in
     rw (part_cut a.table.text.now (get_or a.table.sections.now a.from 0) (get_or a.table.sections.now (a.from + 1) 0)) (omega (arith, c.requires.2, header_length (name_at a.table.text.now a.table.sections.now a.from)))
-
-pub returns : goal.returns
-returns c = let a = c.args in
-    rw (part_cut a.table.text.now (get_or a.table.sections.now a.from 0) (get_or a.table.sections.now (a.from + 1) 0)) at c.put_header.ensures

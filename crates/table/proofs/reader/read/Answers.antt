@@ -1,17 +1,11 @@
 -- `read`: each refusal in its order, and then the lines.
 use Rattle.std.proofs.Common.{arith}
 use Rattle.std.proofs.lemmas.Result.{err_from_is_err_and}
-use Rattle.table.proofs.ReadCalls.{short_text, short_sections, short_entries, checked_short, file_refused, file_read}
+use Rattle.table.proofs.ReadCalls.{short_buffers, checked_short, file_refused, file_read}
 use Rattle.table.proofs.reader.read.Goals as goal
 
 pub returns-then-text-lt-TEXT_BYTES : goal.returns-then-text-lt-TEXT_BYTES
-returns-then-text-lt-TEXT_BYTES c = short_text _ _ _ _ (omega arith)
-
-pub returns-then-sections-lt-SECTION_NUMBERS : goal.returns-then-sections-lt-SECTION_NUMBERS
-returns-then-sections-lt-SECTION_NUMBERS c = short_sections _ _ _ _ (omega arith) (omega arith)
-
-pub returns-then-entries-lt-ENTRY_NUMBERS : goal.returns-then-entries-lt-ENTRY_NUMBERS
-returns-then-entries-lt-ENTRY_NUMBERS c = short_entries _ _ _ _ (omega arith) (omega arith) (omega arith)
+returns-then-text-lt-TEXT_BYTES c = short_buffers _ c.args.text.now c.args.sections.now c.args.entries.now c.then-text-lt-TEXT_BYTES.either
 
 pub returns-in_err-check_file : goal.returns-in_err-check_file
 returns-in_err-check_file c = let a = c.args in

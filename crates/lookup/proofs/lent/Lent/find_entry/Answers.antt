@@ -13,12 +13,12 @@ returns-in-First c =
     let a = c.args in
     rw c.in-First.is
     (first_of_range _ _ _
-        (first_from_Range _ _ _ _ (λ i. matches (lent_of a.self) a.section.now a.key.now i ≡ true) (λ i. matches (lent_of a.self) a.section.now a.key.now i ≡ false)
-            c.find.ensures.ran (λ x q k. search (rules, tests)) (λ x q k. search (rules, tests))))
+    (first_from_Range _ _ _ _ (λ i. matches (lent_of a.self) a.section.now a.key.now i ≡ true) (λ i. matches (lent_of a.self) a.section.now a.key.now i ≡ false)
+    c.find.ensures.ran (λ x q k. search (rules, tests)) (λ x q k. search (rules, tests))))
 
 pub returns-in-Last : goal.returns-in-Last
 returns-in-Last c =
     let a = c.args in
     rw c.in-Last.is
     (last_from_back _ (matches (lent_of a.self) a.section.now a.key.now) (λ x q k. search (rules, tests)) (λ x q k. search (rules, tests)) _ _ _ _
-        c.rev.ensures.source c.find-in-Last.ensures.ran)
+    c.rev.ensures.source c.find-in-Last.ensures.ran)
