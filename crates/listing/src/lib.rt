@@ -14,7 +14,7 @@ pub use files::{cases, long_case, start_cases};
 use lines::{Cursor, LogicalLine};
 use std::io;
 pub use stdin::{each_case, with_file};
-pub use texts::{lay_apart, print_run};
+pub use texts::lay_apart;
 
 pub fn print(rt: &impl Print, text: &[u8]) -> io::Result<()> {
     rt.write_all(text)

@@ -45,7 +45,10 @@ pub fn line_at(text: &[u8], at: usize) -> &[u8]
 }
 
 // Goes through the lines of a text. What stands behind its last LF is one where it is not empty.
-pub fn each_line<F: FnMut(&[u8]) -> io::Result<()>>(text: &[u8], mut visit: F) -> io::Result<()>
+pub(crate) fn each_line<F: FnMut(&[u8]) -> io::Result<()>>(
+    text: &[u8],
+    mut visit: F,
+) -> io::Result<()>
     requires { F.IsAlwaysCallable visit }
 {
     for at in (0..text.len()).filter(|at| starts_line(text, *at)) {
