@@ -19,7 +19,10 @@ use Rattle.normal_text.specs.Answers.{sized, normal_means, out_after, normal_in,
 use Rattle.normal_text.specs.declared.normal.Sizes.{Sizes}
 use Rattle.havtsulen.specs.Reports.{outcome_of, with_report, Reports}
 use Rattle.havtsulen.specs.Answers.{nothing_told, number_told, counts_told, sizes_told, ReportsWellFormedLength, ReportsCheckFile, ReportsRead, ReportsNormalText}
-use Rattle.havtsulen.proofs.Reporting.{with_short, with_long, short, meaning, said}
+use Rattle.std.specs.Prelude.{Ok, Err}
+use Rattle.havtsulen.specs.Steps.{Replies}
+use Rattle.havtsulen.proofs.Numbers.{file_number, table_number}
+use Rattle.havtsulen.proofs.Reporting.{replied, replied_refusal, with_short, with_long, short, meaning, said}
 
 -- ---- the length of the well-formed start
 
@@ -95,3 +98,42 @@ module _ (f text : Bytes) (sections entries : List ℕ) (out : Bytes) (report : 
         left = subst (λ (o : Outcome Table). TableLeft o text sections entries text' sections' entries') same made.left;
         new_out = made.new_out ∙ ap (λ (o : Outcome Table). out_after o out) same;
       }
+
+-- ---- the same from a reply, for what is accepted and for a refusal
+
+module _ (f : Bytes) (report : List ℕ) (h : 4 ≤ length report) (k : Result (Unit {0}) lines.Error) (e : check_means k ≡ checked_file f) (r : ℕ) (report' : List ℕ) where
+  pub check_accepted : k ≡ Ok tt → Replies 0 0 0 0 0 report r report' → ReportsCheckFile f report r report'
+  check_accepted known p = check_told f report h k e r report' (replied nothing_told file.number_of file.place_of tt report h 0 0 0 0 refl k known r report' p)
+
+  pub check_refused : (x : lines.Error) → k ≡ Err x → (number place : ℕ) → number ≡ file.number_of x → place ≡ file.place_of x
+      → Replies number place 0 0 0 report r report' → ReportsCheckFile f report r report'
+  check_refused x known number place i j p =
+      check_told f report h k e r report' (replied_refusal nothing_told file.number_of file.place_of x (file_number x) report h k known number place i j r report' p)
+
+module _ (f text : Bytes) (sections entries report : List ℕ) (h : 4 ≤ length report) (a : Result Counts Error) (text' : Bytes) (sections' entries' : List ℕ)
+    (made : Reads f text sections entries a text' sections' entries') (r : ℕ) (report' : List ℕ) where
+  pub read_accepted : (k : Counts) → a ≡ Ok k → Replies 0 k.text k.sections k.entries 0 report r report'
+      → ReportsRead f text sections entries report r text' sections' entries' report'
+  read_accepted k known p =
+      read_told f text sections entries report h a text' sections' entries' made r report'
+      (replied counts_told number_of place_of k report h k.text k.sections k.entries 0 refl a known r report' p)
+
+  pub read_refused : (x : Error) → a ≡ Err x → (number place : ℕ) → number ≡ number_of x → place ≡ place_of x
+      → Replies number place 0 0 0 report r report' → ReportsRead f text sections entries report r text' sections' entries' report'
+  read_refused x known number place i j p =
+      read_told f text sections entries report h a text' sections' entries' made r report'
+      (replied_refusal counts_told number_of place_of x (table_number x) report h a known number place i j r report' p)
+
+module _ (f text : Bytes) (sections entries : List ℕ) (out : Bytes) (report : List ℕ) (h : 4 ≤ length report) (a : Result Sizes Error)
+    (text' : Bytes) (sections' entries' : List ℕ) (out' : Bytes) (made : Normalizes f text sections entries out a text' sections' entries' out') (r : ℕ) (report' : List ℕ) where
+  pub normal_accepted : (s : Sizes) → a ≡ Ok s → Replies 0 s.length s.table.text s.table.sections s.table.entries report r report'
+      → ReportsNormalText f text sections entries out report r text' sections' entries' out' report'
+  normal_accepted s known p =
+      normal_told f text sections entries out report h a text' sections' entries' out' made r report'
+      (replied sizes_told number_of place_of s report h s.length s.table.text s.table.sections s.table.entries refl a known r report' p)
+
+  pub normal_refused : (x : Error) → a ≡ Err x → (number place : ℕ) → number ≡ number_of x → place ≡ place_of x
+      → Replies number place 0 0 0 report r report' → ReportsNormalText f text sections entries out report r text' sections' entries' out' report'
+  normal_refused x known number place i j p =
+      normal_told f text sections entries out report h a text' sections' entries' out' made r report'
+      (replied_refusal sizes_told number_of place_of x (table_number x) report h a known number place i j r report' p)

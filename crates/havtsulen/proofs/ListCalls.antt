@@ -15,7 +15,10 @@ use Rattle.items.proofs.SplitCalls.{items_kept}
 use Rattle.item_writer.specs.Answers.{write_means, measured, text_after, Writes}
 use Rattle.havtsulen.specs.Reports.{outcome_of, with_report, Reports}
 use Rattle.havtsulen.specs.Answers.{number_told, items_told, ReportsSplit, ReportsWrite}
-use Rattle.havtsulen.proofs.Reporting.{with_short, with_long, short, meaning, said}
+use Rattle.std.specs.Prelude.{Ok, Err}
+use Rattle.havtsulen.specs.Steps.{Replies}
+use Rattle.havtsulen.proofs.Numbers.{item_number}
+use Rattle.havtsulen.proofs.Reporting.{replied, replied_refusal, with_short, with_long, short, meaning, said}
 
 -- ---- splitting
 
@@ -65,3 +68,31 @@ module _ (bytes : Bytes) (ends : List ℕ) (out : Bytes) (report : List ℕ) whe
         reports = said number_told _ _ (meaning number_of place_of write_means (λ x. refl) (λ x. refl) a ∙ made.answer ∙ ap measured same) report r report' p;
         new_out = made.new_out ∙ ap (λ (o : Outcome Bytes). text_after o out) same;
       }
+
+-- ---- the same from a reply, for what is accepted and for a refusal
+
+module _ (text bytes : Bytes) (ends report : List ℕ) (h : 4 ≤ length report) (a : Result Counts Error) (bytes' : Bytes) (ends' : List ℕ)
+    (made : Splits text bytes ends a bytes' ends') (r : ℕ) (report' : List ℕ) where
+  pub split_accepted : (n m : ℕ) → a ≡ Ok (record { items = n; bytes = m }) → Replies 0 n m 0 0 report r report'
+      → ReportsSplit text bytes ends report r bytes' ends' report'
+  split_accepted n m known p =
+      split_told text bytes ends report h a bytes' ends' made r report'
+      (replied items_told number_of place_of (record { items = n; bytes = m }) report h n m 0 0 refl a known r report' p)
+
+  pub split_refused : (x : Error) → a ≡ Err x → (number place : ℕ) → number ≡ number_of x → place ≡ place_of x
+      → Replies number place 0 0 0 report r report' → ReportsSplit text bytes ends report r bytes' ends' report'
+  split_refused x known number place i j p =
+      split_told text bytes ends report h a bytes' ends' made r report'
+      (replied_refusal items_told number_of place_of x (item_number x) report h a known number place i j r report' p)
+
+module _ (bytes : Bytes) (ends : List ℕ) (out : Bytes) (report : List ℕ) (h : 4 ≤ length report) (a : Result ℕ Error) (out' : Bytes)
+    (made : Writes bytes ends out a out') (r : ℕ) (report' : List ℕ) where
+  pub write_accepted : (n : ℕ) → a ≡ Ok n → Replies 0 n 0 0 0 report r report' → ReportsWrite bytes ends out report r out' report'
+  write_accepted n known p =
+      write_told bytes ends out report h a out' made r report' (replied number_told number_of place_of n report h n 0 0 0 refl a known r report' p)
+
+  pub write_refused : (x : Error) → a ≡ Err x → (number place : ℕ) → number ≡ number_of x → place ≡ place_of x
+      → Replies number place 0 0 0 report r report' → ReportsWrite bytes ends out report r out' report'
+  write_refused x known number place i j p =
+      write_told bytes ends out report h a out' made r report'
+      (replied_refusal number_told number_of place_of x (item_number x) report h a known number place i j r report' p)

@@ -23,7 +23,9 @@ use Rattle.lookup.specs.declared.values.Part as declared
 use Rattle.lookup.proofs.Laws.{parts_are_values}
 use Rattle.havtsulen.specs.Reports.{outcome_of, with_report, Reports}
 use Rattle.havtsulen.specs.Answers.{number_told, part_told, place_told, which_of, NamesValue, ReportsFind, ReportsValue, ReportsValueCheck}
-use Rattle.havtsulen.proofs.Reporting.{with_short, with_long, short, after_long, meaning, said}
+use Rattle.havtsulen.specs.Steps.{Replies}
+use Rattle.havtsulen.proofs.Numbers.{lookup_number}
+use Rattle.havtsulen.proofs.Reporting.{replied, replied_refusal, with_short, with_long, short, after_long, meaning, said}
 
 -- ---- which entry
 
@@ -116,3 +118,37 @@ module _ (b : Lent) (i : ℕ) (report : List ℕ) where
         part_is : (v : Result declared.Part Error) → part_means (result_unwrap_or v (record { start = 0; length = 0 })) ≡ part_or (value_means v)
         part_is (Ok x) = refl
         part_is (Err x) = refl
+
+-- ---- the same from a reply, for what is accepted and for a refusal
+
+module _ (b : Lent) (which : ℕ) (section key : Bytes) (report : List ℕ) (h : 4 ≤ length report) (w : Which) (asked : w ≡ which_of which)
+    (a : Result ℕ Error) (e : find_means a ≡ index_in b w section key) (r : ℕ) (report' : List ℕ) where
+  pub find_accepted : (i : ℕ) → a ≡ Ok i → Replies 0 i 0 0 0 report r report' → ReportsFind b which section key report r report'
+  find_accepted i known p =
+      find_told b which section key report h w asked a e r report' (replied number_told number_of place_of i report h i 0 0 0 refl a known r report' p)
+
+  pub find_refused : (x : Error) → a ≡ Err x → (number place : ℕ) → number ≡ number_of x → place ≡ place_of x
+      → Replies number place 0 0 0 report r report' → ReportsFind b which section key report r report'
+  find_refused x known number place i j p =
+      find_told b which section key report h w asked a e r report'
+      (replied_refusal number_told number_of place_of x (lookup_number x) report h a known number place i j r report' p)
+
+module _ (b : Lent) (i : ℕ) (report : List ℕ) (h : 4 ≤ length report) (a : Result declared.Part Error) (e : value_means a ≡ part_in b i) (r : ℕ) (report' : List ℕ) where
+  module _ (v : declared.Part) (known : a ≡ Ok v) (p : Replies 0 v.start v.length 0 0 report r report') where
+    pub check_accepted : ReportsValueCheck b i report r report'
+    check_accepted = check_told b i report h a e r report' (replied place_told number_of place_of v report h v.start v.length 0 0 refl a known r report' p)
+
+    pub value_accepted : ReportsValue b i report r report'
+    value_accepted =
+        value_told b i report h a e v (rw known) r report'
+        (replied place_told number_of place_of v report h v.start v.length 0 0 refl (Ok v) refl r report' p)
+
+  module _ (x : Error) (known : a ≡ Err x) where
+    pub check_refused : (number place : ℕ) → number ≡ number_of x → place ≡ place_of x → Replies number place 0 0 0 report r report' → ReportsValueCheck b i report r report'
+    check_refused number place k j p =
+        check_told b i report h a e r report' (replied_refusal place_told number_of place_of x (lookup_number x) report h a known number place k j r report' p)
+
+    pub value_refused : Replies 0 0 0 0 0 report r report' → ReportsValue b i report r report'
+    value_refused p =
+        value_told b i report h a e (record { start = 0; length = 0 }) (rw known) r report'
+        (replied place_told number_of place_of (record { start = 0; length = 0 }) report h 0 0 0 0 refl (Ok (record { start = 0; length = 0 })) refl r report' p)

@@ -9,6 +9,7 @@ use borrow.Author.Tests.{lt-ltb, le-ltb}
 use Rattle.lines.specs.Answers.{Outcome, accepted, refused}
 use Rattle.lines.specs.Buffers.{filled}
 use Rattle.std.specs.Prelude.{Result, Ok, Err}
+use Rattle.havtsulen.specs.Steps.{Replies}
 use Rattle.havtsulen.specs.Reports.{outcome_of, four, is_short, with_report, report_after, Reports}
 
 -- ---- the report is judged before everything
@@ -66,3 +67,18 @@ meaning number place means ok err (Err e) = sym (err e)
 pub said : {A : Type 0} (told : A → List ℕ) (o o' : Outcome A) → o ≡ o' → (report : List ℕ) (r : ℕ) (report' : List ℕ)
     → Reports told o report r report' → Reports told o' report r report'
 said {A} told o o' e report r report' p = subst (λ (v : Outcome A). Reports told v report r report') e p
+
+-- ---- replies: a number as the answer, and four numbers in the report
+
+-- of what was accepted
+pub replied : {A E : Type 0} (told : A → List ℕ) (number place : E → ℕ) (x : A) (report : List ℕ) → 4 ≤ length report → (a b c d : ℕ) → told x ≡ four a b c d
+    → (v : Result A E) → v ≡ Ok x → (r : ℕ) (report' : List ℕ) → Replies 0 a b c d report r report' → Reports told (outcome_of number place v) report r report'
+replied told number place x report h a b c d t v known r report' p =
+    rw (known, p.answer) (accepts told report h x (four a b c d) report' (sym t) p.new_report)
+
+-- of a refusal
+pub replied_refusal : {A E : Type 0} (told : A → List ℕ) (number_of place_of : E → ℕ) (x : E) → eqb (number_of x) 0 ≡ false
+    → (report : List ℕ) → 4 ≤ length report → (v : Result A E) → v ≡ Err x → (number place : ℕ) → number ≡ number_of x → place ≡ place_of x
+    → (r : ℕ) (report' : List ℕ) → Replies number place 0 0 0 report r report' → Reports told (outcome_of number_of place_of v) report r report'
+replied_refusal told number_of place_of x z report h v known number place i j r report' p =
+    rw known (refuses told report h (number_of x) (place_of x) r place report' z (p.answer ∙ i) j p.new_report)

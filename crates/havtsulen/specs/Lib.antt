@@ -3,3 +3,5 @@
 pub mod Reports
 -- what each call answers, reports and leaves in the buffers
 pub mod Answers
+-- cited by no public promise
+pub mod Steps

@@ -5,7 +5,7 @@ ghost use Rattle.items.specs.declared.pieces.Mode.TheVariants.{Bare, Quoted};
 ghost use Rattle.items.specs.Steps.{PieceAt, EscapePiece, ClosedAt};
 
 use crate::error::Error;
-use crate::escapes::read_escape;
+use crate::escapes::{Escape, read_escape};
 use crate::few::Few;
 use lines::is_blank;
 
@@ -31,15 +31,18 @@ pub(crate) fn is_quote(b: u8) -> bool
     b == b'"' || b == b'\''
 }
 
-// An escape, in and out of quotes.
+// An escape, in and out of quotes. A refusal leaves with its number and offset.
 fn escape_piece(text: &[u8], at: usize) -> Result<Piece, Error>
     requires { (at < length text.now) × (backslash (get_or text.now at 0) ≡ true) }
     ensures { EscapePiece text.now at result }
 {
-    let e = read_escape(text, at)?;
+    let escape = read_escape(text, at);
+    let Ok(Escape { bytes, taken }) = escape else {
+        return Err(escape.unwrap_err());
+    };
     Ok(Piece::Bytes {
-        bytes: e.bytes,
-        next: at + 1 + e.taken,
+        bytes,
+        next: at + 1 + taken,
     })
 }
 

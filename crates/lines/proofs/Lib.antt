@@ -12,6 +12,7 @@ pub mod LineFeeds
 pub mod Chains
 -- UTF-8 and the check of a file
 pub mod Utf8Laws
+pub mod Characters
 pub mod LongestStart
 pub mod Encoded
 pub mod StdUtf8

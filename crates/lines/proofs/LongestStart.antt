@@ -1,12 +1,21 @@
--- The longest well-formed start: it is well-formed, and the whole of well-formed bytes.
-use mathlib.Core.Path.{◌≡◌, refl, ap, ◌∙◌}
-use Prim.Native.Nat.{ℕ, zero, suc}
+-- The longest well-formed start ends where no character stands: the laws of a pass from character to
+-- character.
+use mathlib.Core.Path.{◌≡◌, refl, sym, ap, ◌∙◌}
+use Prim.Native.Nat.{ℕ, zero, suc, ◌+◌, ◌≤◌, zero-le, suc-le-suc}
+use native.Mathlib.Omega.{arith}
+use native.Mathlib.Nat.{add-zero, add-suc}
 use mathlib.Core.Bool.{true, false}
-use lib.ListN.{length, take}
-use lib.Seq.{take-length}
+use mathlib.Core.List.{[], ◌∷◌, ◌++◌, append-nil}
+use lib.ListN.{length, take, drop, length-append, take-append-drop, length-drop}
+use lib.Seq.{take-length, take-append-add, take-append_seam, take-add, length-take-le}
 use Rattle.lines.proofs.Bools.{by_cases}
 use Rattle.lines.specs.Bytes.{Bytes}
 use Rattle.lines.specs.Utf8.{well, utf8, start_within, longest_start}
+use Rattle.lines.specs.CharSteps.{char_length}
+use Rattle.lines.proofs.Utf8Laws.{utf8_append}
+use Rattle.lines.proofs.Characters.{char_nil, character, no_start}
+
+-- ---- the longest well-formed start
 
 pub start_no : (f : Bytes) (n : ℕ) → utf8 (take (suc n) f) ≡ false → start_within (suc n) f ≡ start_within n f
 unfolding start_within
@@ -16,6 +25,14 @@ pub start_yes : (f : Bytes) (n : ℕ) → utf8 (take n f) ≡ true → start_wit
 unfolding start_within
 start_yes f zero e = refl
 start_yes f (suc n) e = rw e
+
+start_at : (n : ℕ) (a : Bytes) (b : ℕ) (bs : Bytes) → utf8 a ≡ true → char_length (b ∷ bs) ≡ 0
+    → start_within (length a + n) (a ++ b ∷ bs) ≡ length a
+start_at zero a b bs u c = rw add-zero (start_yes (a ++ b ∷ bs) (length a) (rw take-append_seam u))
+start_at (suc n) a b bs u c =
+    let e : utf8 (take (length a + suc n) (a ++ b ∷ bs)) ≡ false =
+    ap utf8 (take-append-add a (b ∷ bs) (suc n)) ∙ utf8_append a (take (suc n) (b ∷ bs)) u ∙ no_start n b bs c in
+    rw add-suc (start_no (a ++ b ∷ bs) (length a + n) (rw add-suc at e) ∙ start_at n a b bs u c)
 
 start_legal_within : (n : ℕ) (f : Bytes) → utf8 (take (start_within n f) f) ≡ true
 unfolding start_within utf8 well
@@ -33,3 +50,50 @@ start_legal f = start_legal_within (length f) f
 pub longest_start-all : (f : Bytes) → utf8 f ≡ true → longest_start f ≡ length f
 unfolding longest_start
 longest_start-all f u = start_yes f (length f) (rw take-length u)
+
+-- it ends where no character stands
+pub longest_start_at : (a r : Bytes) → utf8 a ≡ true → char_length r ≡ 0 → longest_start (a ++ r) ≡ length a
+unfolding longest_start
+longest_start_at a [] u c = rw append-nil (longest_start-all a u)
+longest_start_at a (b ∷ bs) u c = rw length-append (start_at (length (b ∷ bs)) a b bs u c)
+
+-- bytes with such a place before their end are not well-formed
+pub not_utf8 : (a : Bytes) (b : ℕ) (bs : Bytes) → utf8 a ≡ true → char_length (b ∷ bs) ≡ 0 → utf8 (a ++ b ∷ bs) ≡ false
+not_utf8 a b bs u c =
+    utf8_append a (b ∷ bs) u ∙ sym (ap utf8 (take-length (b ∷ bs))) ∙ no_start (length bs) b bs c
+
+-- ---- from character to character
+
+-- the character at the start is there and well-formed
+pub first_fits : (t : Bytes) → char_length t ≤ length t
+first_fits [] = rw char_nil zero-le
+first_fits (b ∷ bs) = go (char_length (b ∷ bs)) refl
+  where
+    go : (n : ℕ) → char_length (b ∷ bs) ≡ n → n ≤ length (b ∷ bs)
+    go zero e = zero-le
+    go (suc k) e = suc-le-suc (character b bs k e).fits
+
+pub first_legal : (t : Bytes) → utf8 (take (char_length t) t) ≡ true
+unfolding utf8 well
+first_legal [] = rw char_nil
+first_legal (b ∷ bs) = go (char_length (b ∷ bs)) refl
+  where
+    go : (n : ℕ) → char_length (b ∷ bs) ≡ n → utf8 (take n (b ∷ bs)) ≡ true
+    go zero e = refl
+    go (suc k) e = (character b bs k e).legal
+
+-- i bytes of f are passed, and they are well-formed
+module _ (f : Bytes) (i : ℕ) (inside : i ≤ length f) (legal : utf8 (take i f) ≡ true) where
+  pub more_fits : i + char_length (drop i f) ≤ length f
+  more_fits = omega (arith, first_fits (drop i f), length-drop i f)
+
+  pub more_legal : utf8 (take (i + char_length (drop i f)) f) ≡ true
+  more_legal =
+      rw take-add
+      (utf8_append (take i f) (take (char_length (drop i f)) (drop i f)) legal ∙ first_legal (drop i f))
+
+  pub start_ends : char_length (drop i f) ≡ 0 → longest_start f ≡ i
+  start_ends e =
+      ap longest_start (sym (take-append-drop i f))
+      ∙ longest_start_at (take i f) (drop i f) legal e
+      ∙ length-take-le i f inside

@@ -1,11 +1,13 @@
 -- The closing run of backslashes: a byte that is none starts it afresh, and a line of backslashes is
 -- all run.
-use mathlib.Core.Path.{◌≡◌, refl, ap, ◌∙◌}
-use Prim.Native.Nat.{ℕ, suc}
+use mathlib.Core.Path.{◌≡◌, refl, sym, ap, ◌∙◌}
+use Prim.Native.Nat.{ℕ, suc, ◌+◌, ◌-◌, ◌≤◌}
 use native.Mathlib.Omega.{arith}
-use mathlib.Core.Bool.{true, false, ◌&&◌}
+use native.Mathlib.Numerals.{add-one}
+use mathlib.Core.Bool.{true, false, not, ◌&&◌}
 use mathlib.Core.List.{[], ◌∷◌, ◌++◌}
-use lib.ListN.{length, length-append}
+use lib.ListN.{length, get_or, take, drop, length-drop, length-append}
+use lib.Seq.{split_at, drop-cons, drop-length}
 use borrow.Author.Tests.{eqb-true}
 use Rattle.lines.specs.Bytes.{Bytes, all}
 use Rattle.lines.specs.Lines.{backslash, closing_run, odd, continued, spaced}
@@ -64,6 +66,30 @@ spaced-length (b ∷ []) = refl
 spaced-length (b ∷ c ∷ cs) = ap suc (spaced-length (c ∷ cs))
 
 -- ---- counted from the end
+
+-- the bytes from n on are all backslashes, and the byte before them is none
+pub run_stops : (l : Bytes) (j n : ℕ) → j + 1 ≡ n → n ≤ length l → backslash (get_or l j 0) ≡ false → all backslash (drop n l) ≡ true
+    → closing_run l ≡ length l - n
+run_stops l j n e h other run =
+    let c : ℕ = get_or l j 0 in
+    let d : drop (suc j) l ≡ drop n l = ap (λ (k : ℕ). drop k l) (sym (add-one j) ∙ e) in
+    ap closing_run (split_at l j 0 (omega arith)) ∙ closing_after (take j l) c (drop (suc j) l) other
+    ∙ ap closing_run d ∙ closing_all (drop n l) run ∙ length-drop n l
+
+-- one backslash more
+pub run_more : (l : Bytes) (j n : ℕ) → j + 1 ≡ n → n ≤ length l → backslash (get_or l j 0) ≡ true → all backslash (drop n l) ≡ true
+    → (all backslash (drop j l) ≡ true) × (odd (length l - j) ≡ not (odd (length l - n)))
+unfolding all odd
+run_more l j n e h slash run =
+    let d : drop (suc j) l ≡ drop n l = ap (λ (k : ℕ). drop k l) (sym (add-one j) ∙ e) in
+    let m : length l - j ≡ suc (length l - n) = omega arith in
+    (ap (all backslash) (drop-cons l j 0 (omega arith)) ∙ rw (slash, d) run, rw m)
+
+pub run_none : (l : Bytes) → (all backslash (drop (length l) l) ≡ true) × (odd (length l - length l) ≡ false)
+unfolding all odd
+run_none l = let z : length l - length l ≡ 0 = omega arith in (rw (drop-length l), rw z)
+
+-- ---- a byte more at the end
 
 pub closing_more : (l : Bytes) (b : ℕ) → backslash b ≡ true → closing_run (l ++ b ∷ []) ≡ suc (closing_run l)
 unfolding closing_run all

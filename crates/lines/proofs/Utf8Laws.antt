@@ -14,6 +14,9 @@ use Rattle.lines.proofs.Bools.{by_cases, and_left, and_right, and_assoc, impossi
 
 -- ---- rows
 
+abbrev pub high_byte : ℕ → Bool
+high_byte b = leb 0x80 b
+
 -- every byte that the ranges let in is 80 or above
 unfoldable pub high : List Range → Bool
 high [] = true

@@ -13,4 +13,5 @@ pub mod Cursors
 pub mod Laws
 pub mod CommentLaws
 -- cited by no public promise
+pub mod CharSteps
 pub mod LineSteps
