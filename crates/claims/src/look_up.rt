@@ -70,9 +70,7 @@ pub fn read_then_find(
     ensures { Gets file.now which section.now key.now out.old result out.new }
 {
     if out.len() < 65535 {
-        return Err(LookUpError::NotRead(table::Error::File(
-            lines::Error::ShortBuffer,
-        )));
+        return Err(LookUpError::NotRead(table::Error::File(lines::Error::ShortBuffer)));
     }
     let mut text = [0u8; 65535];
     let mut sections = [0usize; 128];

@@ -10,7 +10,10 @@ pub fn havtsulen_well_formed_length(text: &[u8], report: &mut [usize]) -> usize
     if report.len() < REPORT_NUMBERS {
         return SHORT_REPORT;
     }
-    tell(Ok::<usize, lines::Error>(lines::well_formed_length(text)), report)
+    tell(
+        Ok::<usize, lines::Error>(lines::well_formed_length(text)),
+        report,
+    )
 }
 
 // What is judged of a whole file: its size, UTF-8, control bytes.

@@ -49,8 +49,7 @@ fn split_into(
 
 fn print_items(rt: &impl Print, bytes: &[u8], ends: &[usize], counts: Counts) -> io::Result<()> {
     let kept = show::is_kept(bytes, counts.bytes) && show::is_kept(ends, counts.items);
-    print!(
-        rt;
+    print!(rt;
         "rest {}, {} items, {} bytes: ",
         show::kept_word(kept),
         counts.items,

@@ -24,11 +24,15 @@ pub fn call(
 // Prints the answer, and the first 8 bytes of the buffer.
 fn call_with(rt: &impl Print, file: &[u8], cursor: Cursor, buffer: &mut [u8]) -> io::Result<()> {
     match lines::next_line(file, cursor, buffer) {
-        Ok(Some(LogicalLine {
-            length,
-            first,
-            next,
-        })) => println!(rt; "{first} {length}, then {} {}", next.offset, next.line)?,
+        Ok(
+            Some(
+                LogicalLine {
+                    length,
+                    first,
+                    next,
+                },
+            ),
+        ) => println!(rt; "{first} {length}, then {} {}", next.offset, next.line)?,
         Ok(None) => println!(rt; "end")?,
         Err(e) => println!(rt; "{e}")?,
     }

@@ -5,12 +5,9 @@ use std::io;
 use table::Counts;
 
 pub fn print_counts(rt: &impl Print, counts: Counts) -> io::Result<()> {
-    println!(
-        rt;
+    println!(rt;
         "{} text bytes, {} sections, {} entries",
-        counts.text,
-        counts.sections,
-        counts.entries
+        counts.text, counts.sections, counts.entries
     )
 }
 

@@ -10,7 +10,10 @@ use Rattle.table.specs.Tables.{Event, new_section, new_entry, names, later, inde
 use Rattle.table.specs.Contents.{text_of, section_record, records_from}
 use Rattle.table.proofs.Events.{Below, index_below}
 use Rattle.table.specs.Laws.{Apart}
-use Rattle.table.specs.Steps.{is_named, first_named}
+use Rattle.table.specs.Steps.{is_named, first_named, section_named, SectionFound}
+use Rattle.std.specs.Prelude.{Option as CodeOption, Some, None, MatchOption}
+use mathlib.Core.Path.{subst}
+use native.Mathlib.Numerals.{add-one}
 use Rattle.table.proofs.TableLaws.{index_apart}
 
 -- ---- one pair
@@ -66,6 +69,24 @@ module _ (x text : Bytes) (k : ℕ) (ns : List ℕ) where
         let e : k - i ≡ 0 = omega arith in
         let q : first_named x text (k - i) (drop (2 * i) ns) ≡ 0 = rw e in
         omega (arith, l.0, l.1, q)
+
+  -- where no pair is the name, all are passed
+  pub none_named : 2 * k ≤ length ns → ((i : ℕ) → 0 ≤ i → i < k → section_named x text ns i ≡ false) → first_named x text k ns ≡ k
+  none_named m other = looking_over k (passed k (omega arith)) (omega arith)
+    where
+      passed : (i : ℕ) → i ≤ k → Looking x text k ns i
+      passed zero h = looking_start
+      passed (suc i) h =
+          subst (λ (n : ℕ). Looking x text k ns n) (add-one i)
+          (looking_more i (passed i (omega arith)) (omega arith) m (other i (omega arith) (omega arith)))
+
+-- what `find` over the indexes says
+pub found_among : (x text : Bytes) (k : ℕ) (ns : List ℕ) → 2 * k ≤ length ns → (r : CodeOption ℕ)
+    → MatchOption r ((i : ℕ) → 0 ≤ i → i < k → section_named x text ns i ≡ false)
+    (λ i. (0 ≤ i) × (i < k) × (section_named x text ns i ≡ true) × ((j : ℕ) → 0 ≤ j → j < i → section_named x text ns j ≡ false))
+    → SectionFound x text k ns r
+found_among x text k ns m (Some i) f = (f.1, f.2)
+found_among x text k ns m None f = none_named x text k ns m f
 
 -- ---- the sections of a table: the first that is the name
 

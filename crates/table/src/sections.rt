@@ -34,12 +34,7 @@ impl Builder {
     fn search_section(&self, name: &[u8]) -> Option<usize>
         ensures { SectionFound name.now self.now.text self.now.state.sections self.now.sections result }
     {
-        for i in 0..self.state.sections {
-            if self.section_is(i, name) {
-                return Some(i);
-            }
-        }
-        None
+        (0..self.state.sections).find(|i| self.section_is(*i, name))
     }
 
     // The same, where a guess comes first. It may be any number; one that is right saves the search.
