@@ -34,11 +34,7 @@ pub(crate) fn value_case(rt: &impl Print, line: &[u8]) -> io::Result<()> {
 }
 
 // Lays the text.
-fn case<P: Print, F: Fn(&P, Lent) -> io::Result<()>>(
-    rt: &P,
-    line: &[u8],
-    ask: F,
-) -> io::Result<()>
+fn case<P: Print, F: Fn(&P, Lent) -> io::Result<()>>(rt: &P, line: &[u8], ask: F) -> io::Result<()>
     requires { F.IsAlwaysCallable ask }
 {
     let mut text = [0u8; TEXT];
