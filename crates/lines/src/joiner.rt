@@ -100,16 +100,15 @@ fn copy_piece(line: &[u8], buffer: &mut [u8], n: usize) -> Piece
     ensures answer { PieceOf line.now result }
     ensures held { buffer.new ≡ put buffer.old n (piece line.now) }
 {
-    let p = piece_of(line);
-    let length = p.length;
-    if length == 0 {
-        return p;
+    let piece = piece_of(line);
+    if piece.length == 0 {
+        return piece;
     }
     copy_into(line, buffer, n);
-    if !p.ends {
-        buffer[n + length - 1] = b' ';
+    if !piece.ends {
+        buffer[n + piece.length - 1] = b' ';
     }
-    p
+    piece
 }
 
 // The first line from a cursor on that is no comment, or the file's end.
@@ -119,12 +118,10 @@ fn skip_comments(file: &[u8], start: Cursor) -> Cursor
 {
     let mut c = start;
     while c.offset < file.len() {
-        let at = c.offset;
-        if !is_comment(&file[at..]) {
+        if !is_comment(&file[c.offset..]) {
             return c;
         }
-        let p = physical_line(file, c);
-        let next = p.next;
+        let Physical { end: _, next } = physical_line(file, c);
         c = next;
     }
     c
@@ -138,13 +135,10 @@ fn measure(file: &[u8], start: Cursor) -> Measured
     let mut c = start;
     let mut length = 0;
     while c.offset < file.len() {
-        let p = physical_line(file, c);
-        let at = c.offset;
-        let end = p.end;
-        let next = p.next;
-        let q = piece_of(&file[at..end]);
-        length += q.length;
-        if q.ends {
+        let Physical { end, next } = physical_line(file, c);
+        let piece = piece_of(&file[c.offset..end]);
+        length += piece.length;
+        if piece.ends {
             return Measured { length, next };
         }
         c = next;
@@ -160,13 +154,10 @@ fn copy_joined(file: &[u8], start: Cursor, buffer: &mut [u8])
     let mut c = start;
     let mut n = 0;
     while c.offset < file.len() {
-        let p = physical_line(file, c);
-        let at = c.offset;
-        let end = p.end;
-        let next = p.next;
-        let q = copy_piece(&file[at..end], buffer, n);
-        n += q.length;
-        if q.ends {
+        let Physical { end, next } = physical_line(file, c);
+        let piece = copy_piece(&file[c.offset..end], buffer, n);
+        n += piece.length;
+        if piece.ends {
             return;
         }
         c = next;

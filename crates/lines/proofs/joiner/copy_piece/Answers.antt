@@ -3,17 +3,17 @@ use borrow.Author.Tests.{not-true, not-false}
 use Rattle.lines.proofs.Pieces.{put_nothing, put_line, put_open}
 use Rattle.lines.proofs.joiner.copy_piece.Goals as goal
 
-pub returns-then-length-eq0 : goal.returns-then-length-eq0
-returns-then-length-eq0 c =
-    let p = c.piece_of-p in
-    record { answer = p.ensures; held = put_nothing c.args.line.now c.args.buffer.now c.args.n p.result p.ensures c.if-length-eq0.true }
+pub returns-then-piece-eq0 : goal.returns-then-piece-eq0
+returns-then-piece-eq0 c =
+    let p = c.piece_of-piece in
+    record { answer = p.ensures; held = put_nothing c.args.line.now c.args.buffer.now c.args.n p.result p.ensures c.if-piece-eq0.true }
 
-pub returns-then-not-p : goal.returns-then-not-p
-returns-then-not-p c =
-    let p = c.piece_of-p in
-    record { answer = p.ensures; held = put_open c.args.line.now c.args.buffer.now c.args.n p.result p.ensures c.if-length-eq0.false c.requires _ c.copy_into.ensures.held (not-true _ c.if-not-p.true) }
+pub returns-then-not-piece : goal.returns-then-not-piece
+returns-then-not-piece c =
+    let p = c.piece_of-piece in
+    record { answer = p.ensures; held = put_open c.args.line.now c.args.buffer.now c.args.n p.result p.ensures c.if-piece-eq0.false c.requires _ c.copy_into.ensures.held (not-true _ c.if-not-piece.true) }
 
-pub returns-else-not-p : goal.returns-else-not-p
-returns-else-not-p c =
-    let p = c.piece_of-p in
-    record { answer = p.ensures; held = put_line c.args.line.now c.args.buffer.now c.args.n p.result p.ensures c.if-length-eq0.false c.requires _ c.copy_into.ensures.held (not-false _ c.if-not-p.false) }
+pub returns-else-not-piece : goal.returns-else-not-piece
+returns-else-not-piece c =
+    let p = c.piece_of-piece in
+    record { answer = p.ensures; held = put_line c.args.line.now c.args.buffer.now c.args.n p.result p.ensures c.if-piece-eq0.false c.requires _ c.copy_into.ensures.held (not-false _ c.if-not-piece.false) }

@@ -10,25 +10,25 @@ pub overflow_add-length : goal.overflow_add-length
 overflow_add-length c =
     let f = c.args.file.now in
     let l = c.loop-c in
-    let p = c.physical_line-p in
-    let q = c.piece_of-q in
+    let p = c.physical_line-end in
+    let q = c.piece_of-piece in
     omega (arith, piece_shorter f _ l.c l.length l.invariant p.result p.ensures, q.ensures.length_is, p.ensures.stops)
 
-pub returns-then-q : goal.returns-then-q
-returns-then-q c =
+pub returns-then-piece : goal.returns-then-piece
+returns-then-piece c =
     let f = c.args.file.now in
     let l = c.loop-c in
-    let p = c.physical_line-p in
-    let q = c.piece_of-q in
-    measured_line f _ l.c l.length l.invariant p.result p.ensures q.result q.ensures c.if-q.true
+    let p = c.physical_line-end in
+    let q = c.piece_of-piece in
+    measured_line f _ l.c l.length l.invariant p.result p.ensures q.result q.ensures c.if-piece.true
 
 pub loop-c-preserved : goal.loop-c-preserved
 loop-c-preserved c =
     let f = c.args.file.now in
     let l = c.loop-c in
-    let p = c.physical_line-p in
-    let q = c.piece_of-q in
-    walk_more f _ l.c l.length l.invariant p.result p.ensures q.result q.ensures c.if-q.false
+    let p = c.physical_line-end in
+    let q = c.piece_of-piece in
+    walk_more f _ l.c l.length l.invariant p.result p.ensures q.result q.ensures c.if-piece.false
 
 pub returns : goal.returns
 returns c =

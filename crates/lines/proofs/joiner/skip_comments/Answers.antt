@@ -15,7 +15,7 @@ pub loop-c-preserved : goal.loop-c-preserved
 loop-c-preserved c =
     let f = c.args.file.now in
     let l = c.loop-c in
-    let p = c.physical_line-p in
+    let p = c.physical_line in
     let t = skip_more f l.c p.result p.ensures (ap comment (sym (part_from l.c.offset f)) ∙ sym c.is_comment.ensures ∙ c.if-not-is_comment.false) in
     (onward_more f _ l.c p.result.next l.invariant.0 p.ensures.onward, onward_number f l.c p.result.next l.invariant.1 p.ensures.onward, l.invariant.2 ∙ t)
 
