@@ -3,11 +3,10 @@ use mathlib.Core.Path.{◌≡◌}
 use Prim.Native.Nat.{ℕ, ◌+◌, ◌-◌, ◌<◌}
 use native.Mathlib.Numerals.{add-one}
 use native.Mathlib.Omega.{arith}
-use mathlib.Core.Bool.{Bool, ◌&&◌, ◌||◌}
 use mathlib.Core.List.{◌∷◌}
 use lib.ListN.{length, take, drop, get_or, length-drop}
 use lib.Seq.{take_all, drop-cons}
-use Rattle.lines.specs.Bytes.{Bytes, all, any}
+use Rattle.lines.specs.Bytes.{Bytes}
 
 -- `&l[i..]` is lent as its first `length l - i` bytes: all of them
 pub part_from : (i : ℕ) (l : Bytes) → take (length l - i) (drop i l) ≡ drop i l
@@ -16,11 +15,3 @@ part_from i l = take_all (length l - i) (drop i l) (omega (arith, length-drop i 
 -- the first byte of what is left at an index, with the code's `at + 1`
 pub opened : (s : Bytes) (at : ℕ) → at < length s → drop at s ≡ get_or s at 0 ∷ drop (at + 1) s
 opened s at h = rw add-one (drop-cons s at 0 h)
-
-pub any_here : (l : Bytes) (i : ℕ) → i < length l → (p : ℕ → Bool) → any p (drop i l) ≡ (p (get_or l i 0) || any p (drop (i + 1) l))
-unfolding any
-any_here l i h p = rw (opened l i h)
-
-pub all_here : (l : Bytes) (i : ℕ) → i < length l → (p : ℕ → Bool) → all p (drop i l) ≡ (p (get_or l i 0) && all p (drop (i + 1) l))
-unfolding all
-all_here l i h p = rw (opened l i h)

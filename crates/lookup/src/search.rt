@@ -59,7 +59,7 @@ impl Lent<'_> {
         }
     }
 
-    // Looks an entry up in the table that the buffers hold, with these counts of sections and entries: the index of the first
+    // Looks an entry up in the table that the buffers hold, as the counts say: the index of the first
     // or the last entry with this section name and key. The buffers may have any size and hold any numbers: 41 where a record
     // among the counts is faulty or a count passes its buffer, then 40 where there is no such entry.
     pub fn find(self, section: &[u8], key: &[u8], which: Which) -> Result<usize, Error>

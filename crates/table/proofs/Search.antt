@@ -27,7 +27,7 @@ module _ (x text : Bytes) (a n : ℕ) where
   unfolding is_named
   inside_text h = rw (le-leb (a + n) (length text) h)
 
--- ---- the loop
+-- ---- pair after pair
 
 -- the index of the pair, with i pairs passed of k
 abbrev pub Looking : (x text : Bytes) (k : ℕ) (ns : List ℕ) (i : ℕ) → Type 0

@@ -9,7 +9,7 @@ ghost use Rattle.values.specs.Steps.{Stands, scale_means, SplitsAt, PartAt, SumO
 use crate::error::Error;
 use lines::{is_digit, is_letter, trim, trim_start};
 
-// A number of microseconds, or `None` where it is larger than 64 bits hold.
+// A number, of microseconds or of a unit, or `None` where it is larger than 64 bits hold.
 type Amount = Option<u64>;
 
 // The part that a text starts with.
