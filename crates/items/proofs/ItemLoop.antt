@@ -5,12 +5,10 @@ use Prim.Native.Nat.{ℕ, ◌+◌, ◌≤◌}
 use native.Mathlib.Nat.{add-zero}
 use native.Mathlib.Omega.{arith}
 use mathlib.Core.List.{List, [], ◌++◌, append_assoc, append-nil}
-use mathlib.Core.Bool.{cond}
-use lib.Dec.{leb}
 use lib.ListN.{length, length-append}
 use Rattle.lines.specs.Bytes.{Bytes}
 use Rattle.lines.specs.Buffers.{put}
-use Rattle.lines.proofs.Buffers.{put_nil, put-put, length-put, copied}
+use Rattle.lines.proofs.Buffers.{put_nil, put-put, length-put}
 use Rattle.items.specs.Pieces.{Piece}
 use Rattle.items.specs.Split.{Step, item, end, refusal, with_bytes}
 use Rattle.items.specs.Steps.{few_bytes, pieces_at, rest_of, PieceAt, BytesAt, EndsAt, ItemRead}
@@ -70,12 +68,11 @@ module _ (t : Bytes) (m : Mode) (start n : ℕ) (d : Bytes) where
   module _ (buffer : Bytes) (at size : ℕ) (r : Reading t m start n d buffer at size) where
     -- one piece more, copied to the end of the bytes
     pub reading_more : (f : Few) (next : ℕ) → BytesAt m t at f next → (p : Bytes) → p ≡ few_bytes f → (buffer' : Bytes)
-        → buffer' ≡ cond (leb (size + length p) (length buffer)) (put buffer size p) buffer → length t ≤ length d → n ≤ length d
+        → buffer' ≡ put buffer size p → length t ≤ length d → n ≤ length d
         → Reading t m start n d buffer' next (size + length p)
     reading_more f next b p e buffer' q h k =
         let l = ap length e in
-        let fit : size + length p ≤ length buffer = omega (arith, b.fits, b.inside, r.fits, r.same) in
-        let w : buffer' ≡ put buffer size (few_bytes f) = copied buffer buffer' p size fit q ∙ ap (put buffer size) e in
+        let w : buffer' ≡ put buffer size (few_bytes f) = q ∙ ap (put buffer size) e in
         record {
           bytes = r.bytes ++ few_bytes f;
           step = r.step ∙ ap (with_bytes r.bytes) b.step ∙ with_both r.bytes (few_bytes f) (rest_of m (pieces_at t next));

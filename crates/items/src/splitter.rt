@@ -1,5 +1,6 @@
 // The splitter: a text into items.
-ghost use Rattle.std.specs.Prelude.{◌≡◌, ◌≤◌, length, position};
+ghost use Rattle.std.specs.Prelude.{◌≡◌, ◌+◌, ◌≤◌, length, position};
+ghost use Rattle.lines.specs.Buffers.{put};
 ghost use Rattle.items.specs.Pieces.{pieces};
 ghost use Rattle.items.specs.Split.{forbidden, step, items_of};
 ghost use Rattle.items.specs.Answers.{SplitLeaves, Splits};
@@ -50,6 +51,19 @@ fn first_forbidden(text: &[u8]) -> Option<usize>
 
 // ---- an item
 
+// Puts bytes into a buffer from an index on. A piece is mostly one byte, and to call for a copy of one takes far longer
+// than to store it.
+fn store(part: &[u8], buffer: &mut [u8], at: usize)
+    requires { at + length part.now ≤ length buffer.old }
+    ensures { buffer.new ≡ put buffer.old at part.now }
+{
+    if let [b] = part {
+        buffer[at] = *b;
+    } else {
+        copy_into(part, buffer, at);
+    }
+}
+
 // The rest of an item, into a buffer from an index on.
 fn read_item(text: &[u8], mode: Mode, start: usize, buffer: &mut [u8], used: usize) -> Step
     requires { (length text.now ≤ length buffer.old) × (start ≤ length text.now) × (used ≤ start) }
@@ -61,7 +75,7 @@ fn read_item(text: &[u8], mode: Mode, start: usize, buffer: &mut [u8], used: usi
         match piece_at(text, mode, at) {
             Ok(Piece::Bytes { bytes, next }) => {
                 let part = bytes.as_slice();
-                copy_into(part, buffer, size);
+                store(part, buffer, size);
                 size += part.len();
                 at = next;
             }

@@ -1,6 +1,7 @@
 -- `read_item`: the loop keeps `Reading`; its pieces are those of `piece_at`.
 use mathlib.Core.Path.{ap, ◌∙◌}
 use native.Mathlib.Omega.{arith}
+use lib.ListN.{length}
 use Rattle.std.specs.Prelude.{Ok}
 use Rattle.items.proofs.ItemLoop.{reading_start, reading_more, reading_ended, reading_refused, piece_known}
 use Rattle.items.proofs.splitter.read_item.Goals as goal
@@ -8,10 +9,15 @@ use Rattle.items.proofs.splitter.read_item.Goals as goal
 pub loop-bytes-init : goal.loop-bytes-init
 loop-bytes-init c = reading_start _ _ _ _ _ c.requires.1 c.requires.2
 
+pub store-requires : goal.store-requires
+store-requires c =
+    let b = piece_known c.args.mode c.args.text.now c.loop-bytes.at _ _ (c.in-Ok-Bytes.is ∙ ap Ok c.in-Ok-Bytes.field-0-is) c.piece_at.ensures in
+    omega (arith, ap length c.as_slice-part.ensures, b.fits, b.inside, c.loop-bytes.invariant.fits, c.loop-bytes.invariant.same, c.requires.0)
+
 pub loop-bytes-preserved : goal.loop-bytes-preserved
 loop-bytes-preserved c =
     let b = piece_known c.args.mode c.args.text.now c.loop-bytes.at _ _ (c.in-Ok-Bytes.is ∙ ap Ok c.in-Ok-Bytes.field-0-is) c.piece_at.ensures in
-    reading_more _ _ _ _ _ _ _ _ c.loop-bytes.invariant _ _ b _ c.as_slice-part.ensures _ c.copy_into.ensures.held c.requires.0 (omega arith)
+    reading_more _ _ _ _ _ _ _ _ c.loop-bytes.invariant _ _ b _ c.as_slice-part.ensures _ c.store.ensures c.requires.0 (omega arith)
 
 pub returns-in-Ok-End : goal.returns-in-Ok-End
 returns-in-Ok-End c =
