@@ -22,7 +22,7 @@ use Rattle.havtsulen.specs.Answers.{nothing_told, number_told, counts_told, size
 use Rattle.std.specs.Prelude.{Ok, Err}
 use Rattle.havtsulen.specs.Steps.{Replies}
 use Rattle.havtsulen.proofs.Numbers.{file_number, table_number}
-use Rattle.havtsulen.proofs.Reporting.{replied, replied_refusal, with_short, with_long, short, meaning, said}
+use Rattle.havtsulen.proofs.Reporting.{accepts, replied, replied_refusal, with_short, with_long, short, meaning, said}
 
 -- ---- the length of the well-formed start
 
@@ -30,9 +30,13 @@ module _ (text : Bytes) (report : List ℕ) where
   pub length_short : length report < 4 → ReportsWellFormedLength text report 1 report
   length_short h = short number_told _ report h (with_short report (accepted (longest_start text)) h)
 
-  pub length_told : 4 ≤ length report → (n : ℕ) → n ≡ longest_start text → (r : ℕ) (report' : List ℕ)
+  pub length_reported : 4 ≤ length report → (n : ℕ) → n ≡ longest_start text → (r : ℕ) (report' : List ℕ)
       → Reports number_told (accepted n) report r report' → ReportsWellFormedLength text report r report'
-  length_told h n e = said number_told _ _ (ap accepted e ∙ sym (with_long report (accepted (longest_start text)) h)) report
+  length_reported h n e = said number_told _ _ (ap accepted e ∙ sym (with_long report (accepted (longest_start text)) h)) report
+
+  pub length_told : 4 ≤ length report → (n : ℕ) → n ≡ longest_start text → (r : ℕ) (report' : List ℕ)
+      → Replies 0 n 0 0 0 report r report' → ReportsWellFormedLength text report r report'
+  length_told h n e r report' p = length_reported h n e r report' (accepts number_told (accepted n) report h r report' n refl n 0 0 0 refl p)
 
 -- ---- the check of a file
 

@@ -43,12 +43,12 @@ pub after_long : (report : List ℕ) → 4 ≤ length report → (ns : List ℕ)
 after_long report h ns = sym (after report h ns (filled ns report) refl)
 
 module _ {A : Type 0} (told : A → List ℕ) (report : List ℕ) (h : 4 ≤ length report) where
-  pub accepts : (x : A) (ns report' : List ℕ) → ns ≡ told x → report' ≡ filled ns report → Reports told (accepted x) report 0 report'
-  accepts x ns report' t p = record { answer = refl; decides = refl; new_report = after report h (told x) report' (p ∙ ap (λ (n : List ℕ). filled n report) t) }
+  pub accepts_put : (x : A) (ns report' : List ℕ) → ns ≡ told x → report' ≡ filled ns report → Reports told (accepted x) report 0 report'
+  accepts_put x ns report' t p = record { answer = refl; decides = refl; new_report = after report h (told x) report' (p ∙ ap (λ (n : List ℕ). filled n report) t) }
 
-  pub refuses : (n p r place : ℕ) (report' : List ℕ) → eqb n 0 ≡ false → r ≡ n → place ≡ p → report' ≡ filled (four place 0 0 0) report
+  pub refuses_put : (n p r place : ℕ) (report' : List ℕ) → eqb n 0 ≡ false → r ≡ n → place ≡ p → report' ≡ filled (four place 0 0 0) report
       → Reports told (refused n p) report r report'
-  refuses n p r place report' z i j q =
+  refuses_put n p r place report' z i j q =
       record {
         answer = i;
         decides = ap (λ (m : ℕ). eqb m 0) i ∙ z;
@@ -70,15 +70,26 @@ said {A} told o o' e report r report' p = subst (λ (v : Outcome A). Reports tol
 
 -- ---- replies: a number as the answer, and four numbers in the report
 
--- of what was accepted
+module _ {A : Type 0} (told : A → List ℕ) (o : Outcome A) (report : List ℕ) (h : 4 ≤ length report) (r : ℕ) (report' : List ℕ) where
+  -- a reply for what was accepted
+  pub accepts : (x : A) → accepted x ≡ o → (a b c d : ℕ) → told x ≡ four a b c d → Replies 0 a b c d report r report' → Reports told o report r report'
+  accepts x e a b c d t p = rw (sym e, p.answer) (accepts_put told report h x (four a b c d) report' (sym t) p.new_report)
+
+  -- a reply for a refusal
+  pub refuses : (n p : ℕ) → refused n p ≡ o → eqb n 0 ≡ false → (number place : ℕ) → number ≡ n → place ≡ p
+      → Replies number place 0 0 0 report r report' → Reports told o report r report'
+  refuses n p e z number place i j q =
+      rw (sym e) (refuses_put told report h n p r place report' z (q.answer ∙ i) j q.new_report)
+
+-- the same of an answer of the code: of what was accepted
 pub replied : {A E : Type 0} (told : A → List ℕ) (number place : E → ℕ) (x : A) (report : List ℕ) → 4 ≤ length report → (a b c d : ℕ) → told x ≡ four a b c d
     → (v : Result A E) → v ≡ Ok x → (r : ℕ) (report' : List ℕ) → Replies 0 a b c d report r report' → Reports told (outcome_of number place v) report r report'
 replied told number place x report h a b c d t v known r report' p =
-    rw (known, p.answer) (accepts told report h x (four a b c d) report' (sym t) p.new_report)
+    accepts told (outcome_of number place v) report h r report' x (sym (ap (outcome_of number place) known)) a b c d t p
 
--- of a refusal
+-- and of a refusal
 pub replied_refusal : {A E : Type 0} (told : A → List ℕ) (number_of place_of : E → ℕ) (x : E) → eqb (number_of x) 0 ≡ false
     → (report : List ℕ) → 4 ≤ length report → (v : Result A E) → v ≡ Err x → (number place : ℕ) → number ≡ number_of x → place ≡ place_of x
     → (r : ℕ) (report' : List ℕ) → Replies number place 0 0 0 report r report' → Reports told (outcome_of number_of place_of v) report r report'
 replied_refusal told number_of place_of x z report h v known number place i j r report' p =
-    rw known (refuses told report h (number_of x) (place_of x) r place report' z (p.answer ∙ i) j p.new_report)
+    refuses told (outcome_of number_of place_of v) report h r report' (number_of x) (place_of x) (sym (ap (outcome_of number_of place_of) known)) z number place i j p

@@ -17,7 +17,8 @@ use Rattle.items.specs.Steps.{few_bytes, pieces_at, rest_of, PieceAt, BytesAt, E
 use Rattle.items.specs.declared.few.Few.{Few}
 use Rattle.items.specs.declared.pieces.Mode.{Mode}
 use Rattle.items.specs.declared.pieces.Piece as code
-use Rattle.std.specs.Prelude.{Ok}
+use Rattle.std.specs.Prelude.{Result}
+use Rattle.items.specs.declared.error.Error.{Error}
 
 -- ---- bytes before the rest of an item
 
@@ -104,5 +105,5 @@ module _ (t : Bytes) (m : Mode) (start n : ℕ) (d : Bytes) where
     reading_refused k p e = r.step ∙ ap (with_bytes r.bytes) e ∙ with_refusal r.bytes k p
 
 -- a piece that is known
-pub piece_known : (m : Mode) (t : Bytes) (at : ℕ) (p q : code.Piece) → p ≡ q → PieceAt m t at (Ok p) → PieceAt m t at (Ok q)
-piece_known m t at p q e h = subst (λ (x : code.Piece). PieceAt m t at (Ok x)) e h
+pub piece_known : (m : Mode) (t : Bytes) (at : ℕ) (r r' : Result code.Piece Error) → r ≡ r' → PieceAt m t at r → PieceAt m t at r'
+piece_known m t at r r' e h = subst (PieceAt m t at) e h

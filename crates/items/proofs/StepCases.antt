@@ -12,11 +12,9 @@ use Rattle.lines.proofs.Slices.{part_from}
 use Rattle.items.specs.Pieces.{backslash, quote}
 use Rattle.items.specs.Split.{end, refusal, item_at, past_blanks, begun, step}
 use Rattle.items.specs.Split as split
-use Rattle.items.specs.Steps.{pieces_at, rest_of, BlanksFirst, ItemTaken, StepTaken}
+use Rattle.items.specs.Steps.{pieces_at, rest_of, BlanksFirst, StepTaken}
 use Rattle.items.specs.declared.pieces.Mode.TheVariants.{Bare, Quoted}
-use Rattle.std.specs.Prelude.{Result, Ok, Option}
-use Rattle.items.specs.declared.error.Error.{Error}
-use Rattle.items.specs.declared.splitter.Item.{Item}
+use Rattle.items.specs.declared.splitter.Step as code
 use Rattle.items.proofs.PieceSteps.{at_end, at_plain, not_backslash, some_escape, nonblank, blank_passed}
 
 -- blanks are passed
@@ -74,12 +72,12 @@ module _ (t : Bytes) (n start m : ℕ) (from : start ≤ length t) (lent : Blank
           (λ y. rw (some_escape t (start + m) h y).1)
           (λ f. rw (at_plain t (start + m) h f, q)))
 
--- the promise of an item's rest, where the step is known
-pub same_step : (t : Bytes) (s s' : split.Step) (n : ℕ) (before after : Bytes) (r : Result Item Error) → s ≡ s'
-    → ItemTaken t s' n before after r → ItemTaken t s n before after r
-same_step t s s' n before after r e h = subst (λ (x : split.Step). ItemTaken t x n before after r) (sym e) h
+-- the promise of a step, where what it reads is known
+pub same_step : (t : Bytes) (s s' : split.Step) (n : ℕ) (before after : Bytes) (r : code.Step) → s ≡ s'
+    → StepTaken t s' n before after r → StepTaken t s n before after r
+same_step t s s' n before after r e h = subst (λ (x : split.Step). StepTaken t x n before after r) (sym e) h
 
 -- a step that is known
-pub step_known : (t : Bytes) (s : split.Step) (n : ℕ) (before after : Bytes) (o o' : Option Item) → o ≡ o'
-    → StepTaken t s n before after (Ok o) → StepTaken t s n before after (Ok o')
-step_known t s n before after o o' e h = subst (λ (x : Option Item). StepTaken t s n before after (Ok x)) e h
+pub step_known : (t : Bytes) (s : split.Step) (n : ℕ) (before after : Bytes) (r r' : code.Step) → r ≡ r'
+    → StepTaken t s n before after r → StepTaken t s n before after r'
+step_known t s n before after r r' e h = subst (StepTaken t s n before after) e h

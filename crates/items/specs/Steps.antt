@@ -17,7 +17,8 @@ use Rattle.items.specs.declared.pieces.Mode.TheVariants.{Bare, Quoted}
 use Rattle.items.specs.declared.pieces.Piece.{Piece}
 use Rattle.items.specs.declared.pieces.Piece.TheVariants.{Bytes as PieceBytes, End as PieceEnd}
 use Rattle.items.specs.declared.splitter.Counts.{Counts}
-use Rattle.items.specs.declared.splitter.Item.{Item}
+use Rattle.items.specs.declared.splitter.Step.{Step}
+use Rattle.items.specs.declared.splitter.Step.TheVariants.{Item, End, Refused}
 
 -- ---- escapes
 
@@ -91,16 +92,11 @@ pub record ItemRead (t : Bytes) (s : split.Step) (n : ℕ) (before after : Bytes
   pub fits : m ≤ next
   pub inside : next ≤ length t
 
--- the rest of an item, and what it leaves in the buffer; after a refusal nobody reads that
-abbrev pub ItemTaken : Bytes → split.Step → ℕ → Bytes → Bytes → Result Item Error → Type 0
-ItemTaken t s n before after (Ok i) = ItemRead t s n before after i.next i.size
-ItemTaken t s n before after (Err e) = s ≡ refusal (number_of e) (place_of e)
-
--- what a step finds
-abbrev pub StepTaken : Bytes → split.Step → ℕ → Bytes → Bytes → Result (Option Item) Error → Type 0
-StepTaken t s n before after (Ok (Some i)) = ItemRead t s n before after i.next i.size
-StepTaken t s n before after (Ok None) = (s ≡ end) × (after ≡ before)
-StepTaken t s n before after (Err e) = s ≡ refusal (number_of e) (place_of e)
+-- what a step finds, and what it leaves in the buffer; after a refusal nobody reads that
+abbrev pub StepTaken : Bytes → split.Step → ℕ → Bytes → Bytes → Step → Type 0
+StepTaken t s n before after (Item next m) = ItemRead t s n before after next m
+StepTaken t s n before after End = (s ≡ end) × (after ≡ before)
+StepTaken t s n before after (Refused e) = s ≡ refusal (number_of e) (place_of e)
 
 -- all items were read
 pub record AllRead (o : Outcome (List Bytes)) (count size : ℕ) (bytes bytes' : Bytes) (ends ends' : List ℕ) : Type 0 where

@@ -3,7 +3,7 @@ ghost use Rattle.std.specs.Prelude.{◌≡◌, ◌≤◌, length, position};
 ghost use Rattle.items.specs.Pieces.{pieces};
 ghost use Rattle.items.specs.Split.{forbidden, step, items_of};
 ghost use Rattle.items.specs.Answers.{SplitLeaves, Splits};
-ghost use Rattle.items.specs.Steps.{pieces_at, rest_of, BlanksFirst, ItemTaken, StepTaken, ReadAll};
+ghost use Rattle.items.specs.Steps.{pieces_at, rest_of, BlanksFirst, StepTaken, ReadAll};
 
 use crate::error::Error;
 use crate::pieces::{Mode, Piece, is_quote, piece_at};
@@ -16,11 +16,13 @@ pub struct Counts {
     pub bytes: usize,
 }
 
-// An item that was read: where reading goes on, and how many bytes the buffer then holds.
+// Each reading step finds an item, the end, or one of the refusals.
 #[derive(Clone, Copy)]
-struct Item {
-    next: usize,
-    size: usize,
+enum Step {
+    // Where reading goes on, and how many bytes the buffer then holds.
+    Item { next: usize, size: usize },
+    End,
+    Refused(Error),
 }
 
 // The least sizes of the buffers for items, and the longest text.
@@ -49,27 +51,22 @@ fn first_forbidden(text: &[u8]) -> Option<usize>
 // ---- an item
 
 // The rest of an item, into a buffer from an index on.
-fn read_item(
-    text: &[u8],
-    mode: Mode,
-    start: usize,
-    buffer: &mut [u8],
-    used: usize,
-) -> Result<Item, Error>
+fn read_item(text: &[u8], mode: Mode, start: usize, buffer: &mut [u8], used: usize) -> Step
     requires { (length text.now ≤ length buffer.old) × (start ≤ length text.now) × (used ≤ start) }
-    ensures { ItemTaken text.now (rest_of mode (pieces_at text.now start)) used buffer.old buffer.new result }
+    ensures { StepTaken text.now (rest_of mode (pieces_at text.now start)) used buffer.old buffer.new result }
 {
     let mut at = start;
     let mut size = used;
     loop {
-        match piece_at(text, mode, at)? {
-            Piece::Bytes { bytes, next } => {
+        match piece_at(text, mode, at) {
+            Ok(Piece::Bytes { bytes, next }) => {
                 let part = bytes.as_slice();
                 copy_into(part, buffer, size);
                 size += part.len();
                 at = next;
             }
-            Piece::End { next } => return Ok(Item { next, size }),
+            Ok(Piece::End { next }) => return Step::Item { next, size },
+            Err(e) => return Step::Refused(e),
         }
     }
 }
@@ -83,35 +80,27 @@ fn leading_blanks(text: &[u8]) -> usize
     text.iter().take_while(|b| is_blank(**b)).count()
 }
 
-// The next item, where `more` items may still come; none at the end of the text.
-fn next_item(
-    text: &[u8],
-    more: usize,
-    start: usize,
-    buffer: &mut [u8],
-    used: usize,
-) -> Result<Option<Item>, Error>
+// The next item, where `more` items may still come.
+fn next_item(text: &[u8], more: usize, start: usize, buffer: &mut [u8], used: usize) -> Step
     requires { (length text.now ≤ length buffer.old) × (start ≤ length text.now) × (used ≤ start) }
     ensures { StepTaken text.now (step more (pieces_at text.now start)) used buffer.old buffer.new result }
 {
     let at = start + leading_blanks(&text[start..]);
     if text.len() <= at {
-        return Ok(None);
+        return Step::End;
     }
     if more == 0 {
-        return Err(Error::TooManyItems(at));
+        return Step::Refused(Error::TooManyItems(at));
     }
     let first = text[at];
-    let item = if is_quote(first) {
+    if is_quote(first) {
         let mode = Mode::Quoted {
             kind: first,
             opening: at,
         };
-        read_item(text, mode, at + 1, buffer, used)?
-    } else {
-        read_item(text, Mode::Bare, at, buffer, used)?
-    };
-    Ok(Some(item))
+        return read_item(text, mode, at + 1, buffer, used);
+    }
+    read_item(text, Mode::Bare, at, buffer, used)
 }
 
 // ---- all items
@@ -124,16 +113,23 @@ fn read_items(text: &[u8], bytes: &mut [u8], ends: &mut [usize]) -> Result<Count
     let mut at = 0;
     let mut length = 0;
     let mut count = 0;
-    while let Some(item) = next_item(text, ENDS - count, at, bytes, length)? {
-        ends[count] = item.size;
-        count += 1;
-        length = item.size;
-        at = item.next;
+    loop {
+        match next_item(text, ENDS - count, at, bytes, length) {
+            Step::Item { next, size } => {
+                ends[count] = size;
+                count += 1;
+                length = size;
+                at = next;
+            }
+            Step::End => {
+                return Ok(Counts {
+                    items: count,
+                    bytes: length,
+                });
+            }
+            Step::Refused(e) => return Err(e),
+        }
     }
-    Ok(Counts {
-        items: count,
-        bytes: length,
-    })
 }
 
 // The items of a text by way of buffers of its own, so that a refusal leaves the lent ones as they were.

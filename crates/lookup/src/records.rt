@@ -5,7 +5,7 @@ ghost use Rattle.lookup.specs.Steps.{there, good_section, good_record, SectionsG
 
 use crate::lent::Lent;
 
-impl Lent<'_> {
+impl Lent<'_, '_> {
     // Whether a part is inside the text.
     fn is_inside(self, start: usize, size: usize) -> bool
         ensures { result ≡ inside self.entry.text.now start size }

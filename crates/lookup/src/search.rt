@@ -16,7 +16,7 @@ pub enum Which {
     Last,
 }
 
-impl Lent<'_> {
+impl Lent<'_, '_> {
     // Whether a part that is inside the text is these bytes.
     fn is_part(self, bytes: &[u8], start: usize, size: usize) -> bool
         requires { start + size ≤ length self.text.now }

@@ -14,7 +14,7 @@ pub struct Part {
     pub length: usize,
 }
 
-impl<'a> Lent<'a> {
+impl<'t, 'n> Lent<'t, 'n> {
     // The part that the value of the entry with this index is, by its record.
     fn value_part(self, index: usize) -> Part
         requires { 5 * index + 5 ≤ length self.entries.now }
@@ -42,7 +42,7 @@ impl<'a> Lent<'a> {
     }
 
     // The value itself, a part of the lent text; the empty part at its start where `value_check` refuses.
-    pub fn value(self, index: usize) -> &'a [u8]
+    pub fn value(self, index: usize) -> &'t [u8]
         ensures { HandsBack (lent_of self.entry) index self.entry.text.ref_ptr result.ref_ptr result.now }
     {
         match self.value_check(index) {
