@@ -112,7 +112,7 @@ counted = []
 for n, t in sources.items():
     lines_ = t.split('\n')
     for k, l in enumerate(lines_):
-        m = re.match(r'(\s*)(?:while\b(?! let)|loop\b)', l)
+        m = re.match(r'(\s*)(?:while\b|loop\b)', l)
         if not m:
             continue
         e = k + 1
