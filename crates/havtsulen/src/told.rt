@@ -37,7 +37,7 @@ impl Told for bool {
     ghost told = { truth_told };
 
     fn numbers(self) -> [usize; 4] {
-        [if self { 1 } else { 0 }, 0, 0, 0]
+        [usize::from(self), 0, 0, 0]
     }
 }
 

@@ -57,9 +57,15 @@ impl Place {
     }
 }
 
-// The order of names with the same number: by their lengths, and then byte for byte.
+// What stands between the first four and the last four bytes of a name.
+fn middle(name: &[u8]) -> &[u8] {
+    name.get(4..name.len().saturating_sub(4)).unwrap_or(&[])
+}
+
+// The order of names with the same number: by their lengths, and then by their middles, byte for byte. Their ends are the
+// same.
 fn by_length(a: &[u8], b: &[u8]) -> Ordering {
-    a.len().cmp(&b.len()).then_with(|| a.cmp(b))
+    a.len().cmp(&b.len()).then_with(|| middle(a).cmp(middle(b)))
 }
 
 // The name of the section with an index, if its two numbers are there and the name is inside the text.
