@@ -1,7 +1,7 @@
 /*
  * Havtsulen: reads and writes settings files in the syntax of systemd.syntax(7), as the house rules (document 01) fix
- * it. For x86-64 Linux, from C99 or C++11 on. Link with target/staticlib/libhavtsulen.a, which needs memcpy and memset
- * and nothing else, and compile c/refusal_text.c with your program where it calls havtsulen_refusal_text.
+ * it. For x86-64 Linux, from C99 or C++11 on. Link with target/staticlib/libhavtsulen.a, which needs memcpy, memmove and
+ * memset and nothing else, and compile c/refusal_text.c with your program where it calls havtsulen_refusal_text.
  * examples/setting.c is a whole program.
  *
  * Slices
@@ -54,7 +54,7 @@
  *   A call needs at most HAVTSULEN_STACK_BYTES bytes of the stack that it is made on. The library does not check that
  *   they are there, but touches its stack page by page, so that a guard page below it ends the program. Measured
  *   (tests/stack): havtsulen_normal_text 97,352, havtsulen_read 92,584, havtsulen_write 17,256, havtsulen_split 6,488,
- *   every other call below 250; and some 3,200 more in the first call of a program that binds memcpy and memset lazily.
+ *   every other call below 250; and some 3,200 more in the first call of a program that binds these functions lazily.
  */
 #ifndef HAVTSULEN_H
 #define HAVTSULEN_H
