@@ -7,7 +7,7 @@ use mathlib.Core.List.{[], ◌∷◌}
 use lib.ListN.{length}
 use Rattle.std.proofs.lemmas.Iterator.{index_from_first}
 use Rattle.std.specs.Prelude.{Option}
-use Rattle.std.specs.List.{AllWithin, HoldsAt, list_all, list_any, filter}
+use Rattle.std.specs.List.{AllWithin, HoldsAt, list_all, list_any, filter, fold}
 use Rattle.std.specs.Option.{MatchOption, unwrap_or}
 use Rattle.lines.specs.Bytes.{Bytes, is_lf, control, all, any, line_feeds}
 use Rattle.lines.specs.Files.{first_control}
@@ -24,6 +24,17 @@ pub any_is : (p : ℕ → Bool) (l : Bytes) → list_any p l ≡ any p l
 unfolding any
 any_is p [] = refl
 any_is p (b ∷ bs) = ap (λ r. p b || r) (any_is p bs)
+
+-- a test on each byte that does not stop at the first that passes
+folded_from : (p : ℕ → Bool) (r : Bool) (l : Bytes) → fold (λ found b. found || p b) r l ≡ (r || any p l)
+unfolding any
+folded_from p false [] = refl
+folded_from p true [] = refl
+folded_from p true (b ∷ bs) = folded_from p true bs
+folded_from p false (b ∷ bs) = folded_from p (p b) bs
+
+pub any_folded : (p : ℕ → Bool) (l : Bytes) → fold (λ found b. found || p b) false l ≡ any p l
+any_folded p l = folded_from p false l
 
 -- how many LFs there are
 pub feeds_counted : (l : Bytes) → length (filter is_lf l) ≡ line_feeds l

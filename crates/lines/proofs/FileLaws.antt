@@ -262,11 +262,14 @@ checked_control f at h o =
     let e : first_control f ≡ at = first_control_is f (Some at) o in
     rw (ends_behind f h, some_control f (omega (arith, e, o.0)), e)
 
-pub checked_whole : (f : Bytes) → length f ≤ longest_start f → FirstOf control f None → checked_bytes f ≡ accepted tt
+pub checked_clean : (f : Bytes) → length f ≤ longest_start f → any control f ≡ false → checked_bytes f ≡ accepted tt
 unfolding checked_bytes
+checked_clean f h e = rw (ends_behind f h, e)
+
+pub checked_whole : (f : Bytes) → length f ≤ longest_start f → FirstOf control f None → checked_bytes f ≡ accepted tt
 checked_whole f h o =
     let e : first_control f ≡ length f = first_control_is f None o in
-    rw (ends_behind f h, none_control f (omega (arith, e)))
+    checked_clean f h (none_control f (omega (arith, e)))
 
 -- ---- accepted exactly where none of the three is met
 

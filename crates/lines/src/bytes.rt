@@ -112,6 +112,8 @@ pub fn copy_into<T: Copy>(part: &[T], buffer: &mut [T], at: usize) -> bool
     if buffer.len() - at < part.len() {
         return false;
     }
-    buffer[at..at + part.len()].copy_from_slice(part);
+    for (i, value) in part.iter().enumerate() {
+        buffer[at + i] = *value;
+    }
     true
 }

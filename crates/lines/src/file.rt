@@ -1,5 +1,6 @@
 // The check of a whole file, before its lines are read.
 ghost use Rattle.std.specs.Prelude.{◌≡◌, ◌≤◌, length, ltb};
+ghost use Rattle.lines.specs.Bytes.{control, any};
 ghost use Rattle.lines.specs.Files.{size, line_at, checked_bytes, checked_file, check_means};
 
 use crate::bytes::is_control;
@@ -28,6 +29,13 @@ fn line_at(offset: usize, file: &[u8]) -> usize
     1 + file[..offset].iter().filter(|b| **b == b'\n').count()
 }
 
+// Whether a control byte is among them. It does not stop at the first one: so the compiler can take many bytes at a time.
+fn has_control(text: &[u8]) -> bool
+    ensures { result ≡ any control text.now }
+{
+    text.iter().fold(false, |found, &b| found | is_control(b))
+}
+
 // The bytes of a file: first UTF-8, then control bytes, each over the whole file.
 fn check_bytes(file: &[u8]) -> Result<(), Error>
     ensures { check_means result ≡ checked_bytes file.now }
@@ -35,6 +43,9 @@ fn check_bytes(file: &[u8]) -> Result<(), Error>
     let end = well_formed_length(file);
     if end < file.len() {
         return Err(Error::NotUtf8(line_at(end, file)));
+    }
+    if !has_control(file) {
+        return Ok(());
     }
     match file.iter().position(|b| is_control(*b)) {
         Some(at) => Err(Error::ControlByte(line_at(at, file))),

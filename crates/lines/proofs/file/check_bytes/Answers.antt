@@ -7,7 +7,7 @@ use Rattle.std.proofs.lemmas.Iterator.{YieldsList-from_slice, IsFirst-from_posit
 use Rattle.lines.specs.Bytes.{control}
 use Rattle.lines.specs.Answers.{refused}
 use Rattle.lines.specs.Files.{line_at}
-use Rattle.lines.proofs.FileLaws.{checked_broken, checked_control, checked_whole}
+use Rattle.lines.proofs.FileLaws.{checked_broken, checked_control, checked_clean, checked_whole}
 use Rattle.lines.proofs.file.check_bytes.Goals as goal
 
 pub returns-then-end-file : goal.returns-then-end-file
@@ -16,6 +16,11 @@ returns-then-end-file c =
     let e = c.well_formed_length-end.ensures in
     ap (λ n. refused 3 n) (c.line_at.ensures ∙ ap (λ n. line_at n f) e)
     ∙ sym (checked_broken f (omega (arith, e, c.if-end-file.true)))
+
+pub returns-then-not-has_control : goal.returns-then-not-has_control
+returns-then-not-has_control c =
+    sym (checked_clean c.args.file.now (omega (arith, c.well_formed_length-end.ensures, c.if-end-file.false))
+    (sym c.has_control.ensures ∙ search (rules, c.if-not-has_control.true)))
 
 pub returns-in-Some : goal.returns-in-Some
 returns-in-Some c =
