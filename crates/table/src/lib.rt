@@ -11,5 +11,6 @@ mod state;
 mod steps;
 
 pub use error::Error;
+pub use lines::Refusal;
 pub use reader::read;
 pub use state::Counts;

@@ -1,11 +1,12 @@
 // The sections in the order of their names, so that the section of a name is found with few comparisons: first by a
-// number made of the first four and the last four bytes of a name and of its length, then by its length, then byte for
-// byte.
+// number made of the first four and the last four bytes of a name and of its length, then by one made of the eight bytes
+// behind the first four, then by its length, then byte for byte.
 // It is only a guess where to look: nothing is promised of what the order has, and any numbers may stand in it. Whoever
 // takes the guess looks whether the name stands there.
 ghost use Rattle.std.specs.Prelude.{◌≡◌, ◌^◌, ◌<◌, ◌≤◌, length, if◌then◌else◌, nat_lt};
 
 use std::cmp::Ordering;
+use std::mem;
 
 const MOST_SECTIONS: usize = 64;
 
@@ -40,20 +41,31 @@ fn is_below(a: usize, b: usize) -> usize
 
 // ---- the order
 
-// The number of a section's name, and the section's index.
+// Two numbers of a section's name, and the section's index.
 #[derive(Clone, Copy)]
 struct Place {
     number: usize,
+    front: usize,
     section: usize,
 }
 
 impl Place {
-    // Whether it stands before a name with this number, among the places whose number is not below it.
-    fn is_before(self, number: usize, name: &[u8], text: &[u8], sections: &[usize]) -> bool {
+    // Whether it stands before a name with these numbers, among the places whose number is not below it. The name itself is
+    // looked at only where both numbers are the same.
+    fn is_before(
+        self,
+        number: usize,
+        front: usize,
+        name: &[u8],
+        text: &[u8],
+        sections: &[usize],
+    ) -> bool {
         self.number == number
-            && name_at(self.section, text, sections).is_some_and(|other| by_length(
-                other, name,
-            ).is_lt())
+            && (self.front < front
+                || self.front == front
+                    && name_at(self.section, text, sections).is_some_and(|other| by_length(
+                        other, name,
+                    ).is_lt()))
     }
 }
 
@@ -62,7 +74,13 @@ fn middle(name: &[u8]) -> &[u8] {
     name.get(4..name.len().saturating_sub(4)).unwrap_or(&[])
 }
 
-// The order of names with the same number: by their lengths, and then by their middles, byte for byte. Their ends are the
+// Its first eight bytes as one number, or what there is of them.
+fn front_of(name: &[u8]) -> usize {
+    let middle = middle(name);
+    joined(&middle[..middle.len().min(8)])
+}
+
+// The order of names with the same numbers: by their lengths, and then by their middles, byte for byte. Their ends are the
 // same.
 fn by_length(a: &[u8], b: &[u8]) -> Ordering {
     a.len().cmp(&b.len()).then_with(|| middle(a).cmp(middle(b)))
@@ -88,6 +106,7 @@ impl Order {
         Order {
             places: [Place {
                 number: 0,
+                front: 0,
                 section: 0,
             }; MOST_SECTIONS],
             count: 0,
@@ -122,8 +141,9 @@ impl Order {
         requires { first ≤ self.now.count }
         ensures { result ≤ self.now.count }
     {
+        let front = front_of(name);
         let places = &self.places[first..self.count];
-        first + places.partition_point(|p| p.is_before(number, name, text, sections))
+        first + places.partition_point(|p| p.is_before(number, front, name, text, sections))
     }
 
     // The index of the section that has a name, if one has it. Where no more than one section has the name's number, that
@@ -148,11 +168,15 @@ impl Order {
         let number = number_of(name);
         let first = self.first_not_below(number);
         let place = self.place_among(first, number, name, text, sections);
-        self.places[place..=self.count].rotate_right(1);
-        self.places[place] = Place {
+        // Each place from here on takes what the one before it had.
+        let mut moved = Place {
             number,
+            front: front_of(name),
             section: self.count,
         };
+        for other in &mut self.places[place..=self.count] {
+            moved = mem::replace(other, moved);
+        }
         self.count += 1;
     }
 }
