@@ -4,14 +4,15 @@ use mathlib.Core.Path.{◌≡◌, refl, sym, ap, subst, ◌∙◌}
 use Prim.Native.Nat.{ℕ, ◌+◌, ◌≤◌}
 use native.Mathlib.Nat.{add-zero}
 use native.Mathlib.Omega.{arith}
-use mathlib.Core.List.{List, [], ◌++◌, append_assoc, append-nil}
-use lib.ListN.{length, length-append}
+use mathlib.Core.List.{List, [], ◌∷◌, ◌++◌, append_assoc, append-nil}
+use lib.ListN.{length, set, length-append, length-set}
 use Rattle.lines.specs.Bytes.{Bytes}
 use Rattle.lines.specs.Buffers.{put}
 use Rattle.lines.proofs.Buffers.{put_nil, put-put, length-put}
+use Rattle.lines.proofs.Putting.{puts_byte}
 use Rattle.items.specs.Pieces.{Piece}
 use Rattle.items.specs.Split.{Step, item, end, refusal, with_bytes}
-use Rattle.items.specs.Steps.{few_bytes, pieces_at, rest_of, PieceAt, BytesAt, EndsAt, ItemRead}
+use Rattle.items.specs.Steps.{few_bytes, pieces_at, rest_of, PieceAt, PlainAt, BytesAt, EndsAt, ItemRead}
 use Rattle.items.specs.declared.few.Few.{Few}
 use Rattle.items.specs.declared.pieces.Mode.{Mode}
 use Rattle.items.specs.declared.pieces.Piece as code
@@ -83,6 +84,24 @@ module _ (t : Bytes) (m : Mode) (start n : ℕ) (d : Bytes) where
           fits = omega (arith, b.fits, r.fits);
           inside = b.inside;
           same = ap length w ∙ length-put buffer size (few_bytes f) (omega arith) ∙ r.same;
+        }
+
+    -- a byte that stands for itself, stored at the end of the bytes
+    pub reading_byte : (b : ℕ) → PlainAt m t at b → (buffer' : Bytes) → buffer' ≡ set buffer size b
+        → length t ≤ length d → n ≤ length d → Reading t m start n d buffer' (at + 1) (size + 1)
+    reading_byte b p buffer' w h k =
+        let x : Bytes = b ∷ [] in
+        let q : buffer' ≡ put buffer size x = w ∙ (puts_byte buffer size b (omega (arith, p.inside, r.fits, r.same))).after in
+        record {
+          bytes = r.bytes ++ x;
+          step = r.step ∙ ap (with_bytes r.bytes) p.step ∙ with_both r.bytes x (rest_of m (pieces_at t (at + 1)));
+          buffer_is =
+              q ∙ ap (λ (y : Bytes). put y size x) r.buffer_is ∙ ap (λ (i : ℕ). put (put d n r.bytes) i x) r.size_is
+              ∙ put-put d n r.bytes x k;
+          size_is = omega (arith, r.size_is, length-append r.bytes x);
+          fits = omega (arith, r.fits);
+          inside = omega (arith, p.inside);
+          same = ap length w ∙ simp length-set r.same;
         }
 
     -- the item has ended

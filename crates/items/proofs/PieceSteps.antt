@@ -16,12 +16,12 @@ use Rattle.lines.proofs.Slices.{opened}
 use Rattle.items.specs.Escapes.{Escaped, escape}
 use Rattle.items.specs.Pieces.{Piece, plain, escaped, offset_of, blank_piece, backslash, quote, behind, pieces_from}
 use Rattle.items.specs.Split.{item, refusal, with_bytes, bare_item, closed_item, quoted_item, past_blanks}
-use Rattle.items.specs.Steps.{few_bytes, pieces_at, rest_of, BytesAt, EndsAt, PieceAt, ClosedAt}
+use Rattle.items.specs.Steps.{few_bytes, pieces_at, rest_of, PlainAt, BytesAt, EndsAt, PieceAt, ClosedAt}
 use Rattle.items.specs.declared.few.Few.{Few}
 use Rattle.items.specs.declared.pieces.Mode.{Mode}
 use Rattle.items.specs.declared.pieces.Mode.TheVariants.{Bare, Quoted}
 use Rattle.items.specs.declared.pieces.Piece as code
-use Rattle.items.specs.declared.pieces.Piece.TheVariants.{Bytes as PieceBytes, End as PieceEnd}
+use Rattle.items.specs.declared.pieces.Piece.TheVariants.{Plain as PiecePlain, Bytes as PieceBytes, End as PieceEnd}
 use Rattle.items.specs.declared.error.Error.{Error}
 use Rattle.items.proofs.EscapeSteps.{Sized, escape-sized}
 use Rattle.items.proofs.PieceLaws.{pieces_nil, pieces-plain, pieces-escape, pieces_refused}
@@ -153,24 +153,20 @@ module _ (t : Bytes) (at : ℕ) where
       unfolding rest_of quoted_item
       quoted_closes q o e = rw (at_plain t at h n, eq-eqb (get_or t at 0) q e)
 
-      module _ (f : Few) (few : few_bytes f ≡ get_or t at 0 ∷ []) where
-        found : (m : Mode) → rest_of m (pieces_at t at) ≡ with_bytes (get_or t at 0 ∷ []) (rest_of m (pieces_at t (at + 1))) → BytesAt m t at f (at + 1)
-        found m e =
-            record { step = rw few e; fits = omega (arith, ap length few); later = omega arith; inside = omega arith }
+      pub bare_byte_lem : blank (get_or t at 0) ≡ false → quote (get_or t at 0) ≡ false → PlainAt Bare t at (get_or t at 0)
+      unfolding rest_of bare_item
+      bare_byte_lem b q = record { step = rw (at_plain t at h n, b, q); inside = h }
 
-        pub bare_byte_lem : blank (get_or t at 0) ≡ false → quote (get_or t at 0) ≡ false → BytesAt Bare t at f (at + 1)
-        unfolding rest_of bare_item
-        bare_byte_lem b q = found Bare (rw (at_plain t at h n, b, q))
-
-        pub quoted_byte : (q o : ℕ) → (get_or t at 0 ≡ q → ⊥) → BytesAt (Quoted q o) t at f (at + 1)
-        unfolding rest_of quoted_item
-        quoted_byte q o e = found (Quoted q o) (rw (at_plain t at h n, ne_eqb (get_or t at 0) q e))
+      pub quoted_byte : (q o : ℕ) → (get_or t at 0 ≡ q → ⊥) → PlainAt (Quoted q o) t at (get_or t at 0)
+      unfolding rest_of quoted_item
+      quoted_byte q o e = record { step = rw (at_plain t at h n, ne_eqb (get_or t at 0) q e); inside = h }
 
 -- ---- what the code's answers say
 
 -- behind a quote that closes the item
 pub quoted_closed : (t : Bytes) (at q o : ℕ) (h : at < length t) → backslash (get_or t at 0) ≡ false → get_or t at 0 ≡ q
     → (r : Result code.Piece Error) → ClosedAt t (at + 1) r → PieceAt (Quoted q o) t at r
+quoted_closed t at q o h n e (Ok (PiecePlain b)) c = absurd c
 quoted_closed t at q o h n e (Ok (PieceBytes f next)) c = absurd c
 quoted_closed t at q o h n e (Ok (PieceEnd next)) c =
     record {

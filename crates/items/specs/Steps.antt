@@ -1,5 +1,5 @@
 -- What the functions inside the crate promise: escapes, and the steps of reading an item into a buffer.
-use Rattle.std.specs.Prelude.{◌≡◌, ℕ, ◌+◌, ◌≤◌, ◌<◌, true, false, cond, List, [], length, take, drop, get_or, Option, Some, None, Result, Ok, Err}
+use Rattle.std.specs.Prelude.{◌≡◌, ℕ, ◌+◌, ◌≤◌, ◌<◌, true, false, cond, List, [], ◌∷◌, length, take, drop, get_or, Option, Some, None, Result, Ok, Err}
 use Rattle.lines.specs.Bytes.{Bytes, blank}
 use Rattle.lines.specs.Answers.{Outcome, accepted}
 use Rattle.lines.specs.Buffers.{put, filled}
@@ -15,7 +15,7 @@ use Rattle.items.specs.declared.escapes.Escape.{Escape}
 use Rattle.items.specs.declared.pieces.Mode.{Mode}
 use Rattle.items.specs.declared.pieces.Mode.TheVariants.{Bare, Quoted}
 use Rattle.items.specs.declared.pieces.Piece.{Piece}
-use Rattle.items.specs.declared.pieces.Piece.TheVariants.{Bytes as PieceBytes, End as PieceEnd}
+use Rattle.items.specs.declared.pieces.Piece.TheVariants.{Plain as PiecePlain, Bytes as PieceBytes, End as PieceEnd}
 use Rattle.items.specs.declared.splitter.Counts.{Counts}
 use Rattle.items.specs.declared.splitter.Step.{Step}
 use Rattle.items.specs.declared.splitter.Step.TheVariants.{Item, End, Refused}
@@ -46,6 +46,11 @@ unfoldable pub rest_of : Mode → List pieces.Piece → split.Step
 rest_of Bare ps = bare_item ps
 rest_of (Quoted q o) ps = quoted_item q o ps
 
+-- a byte of the item that stands for itself at an offset
+pub record PlainAt (m : Mode) (t : Bytes) (at b : ℕ) : Type 0 where
+  pub step : rest_of m (pieces_at t at) ≡ with_bytes (b ∷ []) (rest_of m (pieces_at t (at + 1)))
+  pub inside : at < length t
+
 -- Bytes of the item at an offset, and where its next piece stands. They fit where the bytes of the text did.
 pub record BytesAt (m : Mode) (t : Bytes) (at : ℕ) (f : Few) (next : ℕ) : Type 0 where
   pub step : rest_of m (pieces_at t at) ≡ with_bytes (few_bytes f) (rest_of m (pieces_at t next))
@@ -61,6 +66,7 @@ pub record EndsAt (m : Mode) (t : Bytes) (at next : ℕ) : Type 0 where
 
 -- what stands at an offset inside an item
 abbrev pub PieceAt : Mode → Bytes → ℕ → Result Piece Error → Type 0
+PieceAt m t at (Ok (PiecePlain b)) = PlainAt m t at b
 PieceAt m t at (Ok (PieceBytes f next)) = BytesAt m t at f next
 PieceAt m t at (Ok (PieceEnd next)) = EndsAt m t at next
 PieceAt m t at (Err e) = rest_of m (pieces_at t at) ≡ refusal (number_of e) (place_of e)
@@ -71,6 +77,7 @@ EscapePiece t at r = (m : Mode) → PieceAt m t at r
 
 -- behind a closing quote, which stands before an offset
 abbrev pub ClosedAt : Bytes → ℕ → Result Piece Error → Type 0
+ClosedAt t at (Ok (PiecePlain b)) = ⊥
 ClosedAt t at (Ok (PieceBytes f next)) = ⊥
 ClosedAt t at (Ok (PieceEnd next)) = (closed_item (pieces_at t at) ≡ item [] (pieces_at t at)) × (next ≡ at)
 ClosedAt t at (Err e) = closed_item (pieces_at t at) ≡ refusal (number_of e) (place_of e)

@@ -8,4 +8,5 @@ mod pieces;
 mod splitter;
 
 pub use error::Error;
+pub use lines::Refusal;
 pub use splitter::{Counts, split};

@@ -19,7 +19,9 @@ pub(crate) enum Mode {
 // What stands at an offset inside an item.
 #[derive(Clone, Copy)]
 pub(crate) enum Piece {
-    // Bytes of the item, and where the next piece stands.
+    // A byte of the item that stands for itself.
+    Plain(u8),
+    // The bytes of an escape, and where the next piece stands.
     Bytes { bytes: Few, next: usize },
     // The item's end, and where reading goes on.
     End { next: usize },
@@ -61,10 +63,7 @@ fn bare_piece(text: &[u8], at: usize) -> Result<Piece, Error>
     if b == b'\\' {
         return escape_piece(text, at);
     }
-    Ok(Piece::Bytes {
-        bytes: Few::one(b),
-        next: at + 1,
-    })
+    Ok(Piece::Plain(b))
 }
 
 // Behind a closing quote a blank or the end has to follow.
@@ -93,10 +92,7 @@ fn quoted_piece(text: &[u8], kind: u8, opening: usize, at: usize) -> Result<Piec
     if b == kind {
         return closed_piece(text, at + 1);
     }
-    Ok(Piece::Bytes {
-        bytes: Few::one(b),
-        next: at + 1,
-    })
+    Ok(Piece::Plain(b))
 }
 
 // The piece at an offset, or the end of the text.

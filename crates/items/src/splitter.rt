@@ -51,7 +51,7 @@ fn first_forbidden(text: &[u8]) -> Option<usize>
 
 // ---- an item
 
-// Puts bytes into a buffer from an index on. A piece is mostly one byte, and to call for a copy of one takes far longer
+// Puts bytes into a buffer from an index on. An escape gives mostly one byte, and to call for a copy of one takes far longer
 // than to store it.
 fn store(part: &[u8], buffer: &mut [u8], at: usize)
     requires { at + length part.now ≤ length buffer.old }
@@ -73,6 +73,11 @@ fn read_item(text: &[u8], mode: Mode, start: usize, buffer: &mut [u8], used: usi
     let mut size = used;
     loop {
         match piece_at(text, mode, at) {
+            Ok(Piece::Plain(b)) => {
+                buffer[size] = b;
+                size += 1;
+                at += 1;
+            }
             Ok(Piece::Bytes { bytes, next }) => {
                 let part = bytes.as_slice();
                 store(part, buffer, size);

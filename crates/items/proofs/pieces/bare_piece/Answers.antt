@@ -15,4 +15,4 @@ pub returns-then-b-eq92 : goal.returns-then-b-eq92
 returns-then-b-eq92 c = c.escape_piece.ensures Bare
 
 pub returns : goal.returns
-returns c = bare_byte_lem _ _ c.requires (ne_eqb _ _ c.if-b-eq92.false) _ c.one.ensures (sym c.is_blank.ensures ∙ c.if-is_blank.false) (sym c.is_quote.ensures ∙ c.if-is_quote.false)
+returns c = bare_byte_lem _ _ c.requires (ne_eqb _ _ c.if-b-eq92.false) (sym c.is_blank.ensures ∙ c.if-is_blank.false) (sym c.is_quote.ensures ∙ c.if-is_quote.false)

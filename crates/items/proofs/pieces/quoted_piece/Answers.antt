@@ -12,4 +12,4 @@ pub returns-then-b-kind : goal.returns-then-b-kind
 returns-then-b-kind c = quoted_closed c.args.text.now c.args.at c.args.kind c.args.opening c.requires (ne_eqb _ _ c.if-b-eq92.false) (omega arith) c.closed_piece.result c.closed_piece.ensures
 
 pub returns : goal.returns
-returns c = quoted_byte _ _ c.requires (ne_eqb _ _ c.if-b-eq92.false) _ c.one.ensures _ _ c.if-b-kind.false
+returns c = quoted_byte _ _ c.requires (ne_eqb _ _ c.if-b-eq92.false) _ _ c.if-b-kind.false
