@@ -29,10 +29,14 @@ fn is_bare_byte(b: u8) -> bool
 }
 
 // An item that stands without quotes.
+#[tactic(auto, using(crate::proofs::Bare::bare_none))]
 fn is_bare(item: &[u8]) -> bool
     ensures { result ≡ is_bare item.now }
 {
-    !item.is_empty() && item.iter().all(|b| is_bare_byte(*b))
+    match item {
+        [] => false,
+        _ => item.iter().all(|b| is_bare_byte(*b)),
+    }
 }
 
 // No end lies below the one before it, nor past the bytes, of which there are `size`.
@@ -58,14 +62,12 @@ fn last_end(ends: &[usize]) -> usize
 
 // ---- a byte inside quotes
 
-// The letter of a byte that has a letter escape. Most bytes are 20 to 7E, and are told by comparisons alone.
+// The letter of a control byte that has a letter escape. Each is written out, so that the compiler makes a table of them.
 #[tactic(auto, unfolding(items::specs::Write::letter_of))]
-fn letter_of(b: u8) -> Option<u8>
-    ensures { result ≡ letter_of (control_letters ++ sign_letters) b }
+fn control_letter(b: u8) -> Option<u8>
+    ensures { result ≡ letter_of control_letters b }
 {
     match b {
-        b'\\' | b'"' => Some(b),
-        0x20..=0x7E => None,
         0x07 => Some(b'a'),
         0x08 => Some(b'b'),
         0x0C => Some(b'f'),
@@ -74,6 +76,19 @@ fn letter_of(b: u8) -> Option<u8>
         0x09 => Some(b't'),
         0x0B => Some(b'v'),
         _ => None,
+    }
+}
+
+// The letter of any byte that has a letter escape, the two signs among them. Most bytes are 20 to 7E, and are told by
+// comparisons alone.
+#[tactic(auto, unfolding(items::specs::Write::letter_of))]
+fn letter_of(b: u8) -> Option<u8>
+    ensures { result ≡ letter_of (control_letters ++ sign_letters) b }
+{
+    match b {
+        b'\\' | b'"' => Some(b),
+        0x20..=0x7E => None,
+        _ => control_letter(b),
     }
 }
 

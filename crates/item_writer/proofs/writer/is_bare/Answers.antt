@@ -1,23 +1,15 @@
 -- `is_bare`: an item that is not empty is judged byte by byte.
 use mathlib.Core.Path.{sym, ◌∙◌}
 use native.Mathlib.Omega.{arith}
-use lib.ListN.{length}
-use borrow.Author.Tests.{eqb-true, eqb-false}
 use Rattle.std.proofs.Common.{rules, tests}
 use Rattle.std.proofs.lemmas.Iterator.{YieldsList-from_slice}
 use Rattle.std.proofs.lemmas.Iterator.Search.{all_from_yields_List}
 use Rattle.items.specs.Write.{bare_byte}
-use Rattle.item_writer.proofs.Bare.{bare_none, bare_some, all_is}
+use Rattle.item_writer.proofs.Bare.{bare_some, all_is}
 use Rattle.item_writer.proofs.writer.is_bare.Goals as goal
 
-pub returns-then-not-is_empty : goal.returns-then-not-is_empty
-returns-then-not-is_empty c =
+pub returns-in_default : goal.returns-in_default
+returns-in_default c =
     let x = c.args.item.now in
-    let some = eqb-false (length x) 0 (sym c.is_empty.ensures ∙ c.if-not-is_empty.true) in
     all_from_yields_List bare_byte _ _ c.all.result c.all.ensures.ran (YieldsList-from_slice x cc) (λ y b q k. search (rules, tests))
-    ∙ all_is bare_byte x ∙ sym (bare_some x (omega (arith, some)))
-
-pub returns-else-not-is_empty : goal.returns-else-not-is_empty
-returns-else-not-is_empty c =
-    let x = c.args.item.now in
-    rw c.if-not-is_empty.false (sym (bare_none x (eqb-true (length x) 0 (sym c.is_empty.ensures ∙ c.if-not-is_empty.false))))
+    ∙ all_is bare_byte x ∙ sym (bare_some x (omega arith))
