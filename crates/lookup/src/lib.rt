@@ -9,5 +9,6 @@ mod values;
 
 pub use error::Error;
 pub use lent::Lent;
+pub use lines::Refusal;
 pub use search::Which;
 pub use values::Part;
