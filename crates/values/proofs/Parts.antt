@@ -5,9 +5,9 @@ use Prim.Native.Nat.{ℕ, ◌*◌, ◌<◌}
 use native.Mathlib.Omega.{arith}
 use mathlib.Core.Bool.{Bool, true, false}
 use mathlib.Core.Option.{Option, none, some}
-use mathlib.Core.List.{List, [], ◌∷◌}
+use mathlib.Core.List.{List, [], ◌∷◌, ◌++◌, append_assoc}
 use lib.ListN.{length, drop, length-append}
-use Rattle.lines.specs.Bytes.{Bytes, digit, letter, all}
+use Rattle.lines.specs.Bytes.{Bytes, digit, letter, blank, all}
 use Rattle.lines.specs.Trim.{trim_start}
 use Rattle.lines.proofs.Bools.{by_cases, is_false, impossible}
 use Rattle.lines.proofs.Trimming.{trim_start_idem, length-trim_start}
@@ -92,6 +92,20 @@ unit_at r k e =
 
 -- ---- by what is read: digits, blanks, letters, blanks
 
+-- the blanks at the start of a text, and the rest
+blanks_first : (t : Bytes) → (front : Bytes) × (t ≡ front ++ trim_start t)
+unfolding trim_start
+blanks_first [] = ([], refl)
+blanks_first (b ∷ bs) =
+    by_cases (blank b)
+    (λ e. let c = blanks_first bs in (b ∷ c.0, rw e (ap (λ (l : Bytes). b ∷ l) c.1)))
+    (λ e. ([], rw e refl))
+
+-- four pieces of a text, one behind the other
+four_pieces : (t d s b r u v c w : Bytes) → t ≡ d ++ s → s ≡ b ++ r → r ≡ u ++ v → v ≡ c ++ w → t ≡ (d ++ b ++ u ++ c) ++ w
+four_pieces t d s b r u v c w e f g h =
+    rw (e, f, g, h) (simp append_assoc)
+
 -- the number, and the tokens from the unit on
 number_at : (t d s : Bytes) → Run digit t d s → 0 < length d → tokens (runs t) ≡ d ∷ tokens (runs (trim_start s))
 number_at t d s g h =
@@ -113,7 +127,11 @@ module _ (t d s u v : Bytes) (number : Run digit t d s) (some_digit : 0 < length
       let view : tokens (runs t) ≡ d ∷ u ∷ tokens (runs (trim_start v)) =
       number_at t d s number some_digit ∙ ap (λ (ts : List Bytes). d ∷ ts) unit
       in
+      let before = blanks_first s in
+      let behind = blanks_first v in
       record {
+        taken = d ++ before.0 ++ u ++ behind.0;
+        whole = four_pieces t d s before.0 (trim_start s) u v behind.0 (trim_start v) number.whole before.1 name.whole behind.1;
         first = record { number = decimal d; scale = k };
         made = ap first_part view ∙ right_part d u k (some_numeral d some_digit number.pass) e;
         others = ap (drop 2) view;

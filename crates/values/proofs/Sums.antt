@@ -35,8 +35,10 @@ unfolding microseconds
 microseconds_snoc [] p = omega arith
 microseconds_snoc (q ∷ ps) p = rw (microseconds_snoc ps p) (omega arith)
 
--- what is left to read is r
+-- the bytes at the front of the text are read, and what is left is r
 pub record Walked (t : Bytes) (a : CodeOption ℕ) (r : Bytes) : Type 0 where
+  pub front : Bytes
+  pub whole : t ≡ front ++ r
   pub no_blank : trim_start r ≡ r
   pub list : List Part
   pub view : parts_of (tokens (runs t)) ≡ ahead list (parts_of (tokens (runs r)))
@@ -46,6 +48,8 @@ pub walk_start : (t : Bytes) → trim_start t ≡ t → Walked t (Some 0) t
 unfolding microseconds
 walk_start t h =
     record {
+      front = [];
+      whole = refl;
       no_blank = h;
       list = [];
       view = sym (ahead_nil (parts_of (tokens (runs t))));
@@ -69,6 +73,8 @@ pub walk_more : (t : Bytes) (a b c : CodeOption ℕ) (r rest : Bytes) → Walked
     → ((v w : ℕ) → Stands a v → Stands b w → Stands c (v + w)) → Walked t c rest
 walk_more t a b c r rest w f added =
     record {
+      front = w.front ++ f.taken;
+      whole = w.whole ∙ ap (λ (l : Bytes). w.front ++ l) f.whole ∙ sym (append_assoc w.front f.taken rest);
       no_blank = f.no_blank;
       list = w.list ++ f.first ∷ [];
       view = w.view

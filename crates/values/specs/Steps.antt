@@ -32,9 +32,11 @@ first_part [] = none
 first_part (n ∷ []) = none
 first_part (n ∷ u ∷ ts) = part_of n u
 
--- The first part of a text adds an amount. What stands behind it and its blanks is shorter, has the other tokens, and
--- starts with no blank.
+-- The first part of a text takes the bytes at its start, the blanks behind it too, and adds an amount. What stands behind
+-- them is shorter, has the other tokens, and starts with no blank.
 pub record PartFound (t : Bytes) (a : CodeOption ℕ) (r : Bytes) : Type 0 where
+  pub taken : Bytes
+  pub whole : t ≡ taken ++ r
   pub first : Part
   pub made : first_part (tokens (runs t)) ≡ some first
   pub others : drop 2 (tokens (runs t)) ≡ tokens (runs r)

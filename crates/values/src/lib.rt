@@ -7,4 +7,5 @@ mod spans;
 
 pub use booleans::boolean;
 pub use error::Error;
+pub use lines::Refusal;
 pub use spans::span;

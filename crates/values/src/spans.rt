@@ -115,7 +115,9 @@ fn sum_parts(text: &[u8]) -> Result<Amount, Error>
     let mut total = Some(0);
     let mut rest = text;
     while !rest.is_empty() {
-        let part = first_part(rest)?;
+        let Ok(part) = first_part(rest) else {
+            return Err(Error::SpanForm);
+        };
         total = plus(total, part.amount);
         rest = part.rest;
     }
