@@ -7,7 +7,7 @@ use mathlib.Core.List.{List}
 use lib.ListN.{length}
 use lib.Dec.{eqb}
 use Rattle.std.specs.Prelude.{Result, Ok, Err}
-use Rattle.std.specs.Result.{result_unwrap_or}
+use Rattle.std.specs.Result.{result_or, result_unwrap_or}
 use Rattle.lines.specs.Bytes.{Bytes}
 use Rattle.lines.specs.Answers.{Outcome, accepted, refused}
 use Rattle.lines.specs.Buffers.{filled}
@@ -50,6 +50,12 @@ module _ (b : Lent) (which : ℕ) (section key : Bytes) (report : List ℕ) wher
       said number_told _ _
       (meaning number_of place_of find_means (λ x. refl) (λ x. refl) a ∙ e ∙ ap (λ (v : Which). index_in b v section key) asked ∙ sym (with_long report found h))
       report
+
+  -- the same, with what is told before what it means
+  pub find_reported : 4 ≤ length report → (w : Which) → w ≡ which_of which → (a : Result ℕ Error) (r : ℕ) (report' : List ℕ)
+      → Reports number_told (outcome_of number_of place_of a) report r report' → find_means a ≡ index_in b w section key
+      → ReportsFind b which section key report r report'
+  find_reported h w asked a r report' p e = find_told h w asked a e r report' p
 
 -- ---- the part that a value is
 
@@ -118,6 +124,19 @@ module _ (b : Lent) (i : ℕ) (report : List ℕ) where
         part_is : (v : Result declared.Part Error) → part_means (result_unwrap_or v (record { start = 0; length = 0 })) ≡ part_or (value_means v)
         part_is (Ok x) = refl
         part_is (Err x) = refl
+
+    -- the same of what is told where there is no value: the empty part
+    pub value_reported : (a : Result declared.Part Error) → value_means a ≡ part_in b i → (o : Result declared.Part Error)
+        → o ≡ result_or a (Ok (record { start = 0; length = 0 })) → (r : ℕ) (report' : List ℕ)
+        → Reports place_told (outcome_of number_of place_of o) report r report' → ReportsValue b i report r report'
+    value_reported a e o u r report' q =
+        value_told a e (result_unwrap_or a (record { start = 0; length = 0 })) refl r report'
+        (said place_told _ _ (ap (outcome_of number_of place_of) u ∙ either a) report r report' q)
+      where
+        either : (v : Result declared.Part Error)
+            → outcome_of number_of place_of (result_or v (Ok (record { start = 0; length = 0 }))) ≡ accepted (result_unwrap_or v (record { start = 0; length = 0 }))
+        either (Ok x) = refl
+        either (Err x) = refl
 
 -- ---- the same from a reply, for what is accepted and for a refusal
 

@@ -2,8 +2,9 @@
 use mathlib.Core.Path.{◌≡◌, refl, sym, ap, subst, ◌∙◌}
 use Prim.Native.Nat.{ℕ, ◌≤◌, ◌<◌}
 use mathlib.Core.Bool.{false}
-use mathlib.Core.List.{List}
-use lib.ListN.{length}
+use mathlib.Core.List.{List, [], ◌∷◌}
+use lib.ListN.{length, get_or}
+use native.Mathlib.Omega.{arith}
 use lib.Dec.{eqb}
 use borrow.Author.Tests.{lt-ltb, le-ltb}
 use Rattle.lines.specs.Answers.{Outcome, accepted, refused}
@@ -69,6 +70,21 @@ pub said : {A : Type 0} (told : A → List ℕ) (o o' : Outcome A) → o ≡ o' 
 said {A} told o o' e report r report' p = subst (λ (v : Outcome A). Reports told v report r report') e p
 
 -- ---- replies: a number as the answer, and four numbers in the report
+
+-- four numbers, one by one
+pub four_numbers : (ns : List ℕ) → length ns ≡ 4 → ns ≡ four (get_or ns 0 0) (get_or ns 1 0) (get_or ns 2 0) (get_or ns 3 0)
+four_numbers [] h = absurd (omega arith)
+four_numbers (a ∷ []) h = absurd (omega arith)
+four_numbers (a ∷ b ∷ []) h = absurd (omega arith)
+four_numbers (a ∷ b ∷ c ∷ []) h = absurd (omega arith)
+four_numbers (a ∷ b ∷ c ∷ d ∷ []) h = refl
+four_numbers (a ∷ b ∷ c ∷ d ∷ e ∷ ns) h = absurd (omega arith)
+
+-- what is reported of a number alone is a reply
+pub reply_of : (n : ℕ) (report : List ℕ) → 4 ≤ length report → (told : ℕ → List ℕ) → told n ≡ four n 0 0 0 → (r : ℕ) (report' : List ℕ)
+    → Reports told (accepted n) report r report' → Replies 0 n 0 0 0 report r report'
+reply_of n report h told t r report' p =
+    record { answer = p.answer; new_report = p.new_report ∙ after_long report h (told n) ∙ ap (λ (ns : List ℕ). filled ns report) t }
 
 module _ {A : Type 0} (told : A → List ℕ) (o : Outcome A) (report : List ℕ) (h : 4 ≤ length report) (r : ℕ) (report' : List ℕ) where
   -- a reply for what was accepted

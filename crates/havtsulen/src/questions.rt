@@ -90,9 +90,12 @@ pub fn havtsulen_value(
         entries,
         entry_count,
     };
-    let part = lent.value_check(index).unwrap_or(Part {
+    let empty = Part {
         start: 0,
         length: 0,
-    });
-    tell(Ok::<Part, lookup::Error>(part), report)
+    };
+    tell(
+        lent.value_check(index).or(Ok::<Part, lookup::Error>(empty)),
+        report,
+    )
 }
