@@ -1,7 +1,7 @@
 /*
  * Havtsulen: reads and writes settings files in the syntax of systemd.syntax(7), as the house rules (document 01) fix
- * it. For x86-64 Linux, from C99 or C++11 on. Link with target/staticlib/libhavtsulen.a, which needs memcpy, memmove and
- * memset and nothing else, and compile c/refusal_text.c with your program where it calls havtsulen_refusal_text.
+ * it. For x86-64 Linux, from C99 or C++11 on. Link with target/staticlib/libhavtsulen.a, which needs memcpy and memset
+ * and nothing else, and compile c/refusal_text.c with your program where it calls havtsulen_refusal_text.
  * examples/setting.c is a whole program.
  *
  * Slices

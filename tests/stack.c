@@ -6,8 +6,8 @@
  * how deep the call went, whatever it left above as it was. It is made twice, with two fillings, so that a byte that is
  * written as the filling in one is seen in the other. What a function that calls nothing needs is taken off.
  *
- * The library calls memcpy, memmove and memset. With -z now they are bound at the start, so that no figure depends on
- * the order of the calls. A program that is bound lazily needs some 3,200 bytes more (glibc 2.36) in the first call of them.
+ * The library calls memcpy and memset. With -z now they are bound at the start, so that no figure depends on the order
+ * of the calls. A program that is bound lazily needs some 3,200 bytes more (glibc 2.36) in the first call of them.
  */
 #define _GNU_SOURCE
 
