@@ -53,9 +53,8 @@
  * Stack
  *   A call needs at most HAVTSULEN_STACK_BYTES bytes of the stack that it is made on. The library does not check that
  *   they are there, but touches its stack page by page, so that a guard page below it ends the program. Measured
- *   (tests/stack): havtsulen_normal_text 111,320, havtsulen_read 92,712, havtsulen_write 17,304, havtsulen_split 6,520,
- *   havtsulen_find 360, every other call below 250; and some 3,200 more in the first call of a program that binds the
- *   three functions of the C library lazily.
+ *   (tests/stack): havtsulen_normal_text 111,896, havtsulen_read 93,336, havtsulen_write 17,320, havtsulen_split 6,552,
+ *   every other call below 250; and some 3,200 more in the first call of a program that binds memcpy and memset lazily.
  */
 #ifndef HAVTSULEN_H
 #define HAVTSULEN_H
