@@ -21,7 +21,7 @@ use Rattle.lookup.specs.declared.search.Which.{Which}
 use Rattle.lookup.specs.declared.search.Which.TheVariants.{Last}
 use Rattle.lookup.specs.declared.values.Part as declared
 use Rattle.lookup.proofs.Laws.{parts_are_values}
-use Rattle.havtsulen.specs.Reports.{outcome_of, with_report, Reports}
+use Rattle.havtsulen.specs.Reports.{outcome_of, Reports}
 use Rattle.havtsulen.specs.Answers.{number_told, part_told, place_told, which_of, NamesValue, ReportsFind, ReportsValue, ReportsValueCheck}
 use Rattle.havtsulen.specs.Steps.{Replies}
 use Rattle.havtsulen.proofs.Numbers.{lookup_number}

@@ -57,6 +57,28 @@ unfolding longest_start
 longest_start_at a [] u c = rw append-nil (longest_start-all a u)
 longest_start_at a (b ∷ bs) u c = rw length-append (start_at (length (b ∷ bs)) a b bs u c)
 
+-- it goes on behind a well-formed front
+start_behind : (n : ℕ) (a r : Bytes) → utf8 a ≡ true → start_within (length a + n) (a ++ r) ≡ length a + start_within n r
+unfolding start_within
+start_behind zero a r u = rw add-zero (start_yes (a ++ r) (length a) (rw take-append_seam u))
+start_behind (suc n) a r u =
+    let e : utf8 (take (length a + suc n) (a ++ r)) ≡ utf8 (take (suc n) r) =
+    ap utf8 (take-append-add a r (suc n)) ∙ utf8_append a (take (suc n) r) u in
+    by_cases (utf8 (take (suc n) r))
+    (λ v. start_yes (a ++ r) (length a + suc n) (e ∙ v) ∙ ap (λ k. length a + k) (sym (start_yes r (suc n) v)))
+    (λ v. rw add-suc (start_no (a ++ r) (length a + n) (rw add-suc at e ∙ v) ∙ start_behind n a r u)
+    ∙ ap (λ k. length a + k) (sym (start_no r n v)))
+
+pub longest_start_behind : (a r : Bytes) → utf8 a ≡ true → longest_start (a ++ r) ≡ length a + longest_start r
+unfolding longest_start
+longest_start_behind a r u = rw length-append (start_behind (length r) a r u)
+
+pub longest_start_from : (t : Bytes) (i : ℕ) → i ≤ length t → utf8 (take i t) ≡ true
+    → longest_start t ≡ i + longest_start (drop i t)
+longest_start_from t i l u =
+    ap longest_start (sym (take-append-drop i t)) ∙ longest_start_behind (take i t) (drop i t) u
+    ∙ ap (λ n. n + longest_start (drop i t)) (length-take-le i t l)
+
 -- bytes with such a place before their end are not well-formed
 pub not_utf8 : (a : Bytes) (b : ℕ) (bs : Bytes) → utf8 a ≡ true → char_length (b ∷ bs) ≡ 0 → utf8 (a ++ b ∷ bs) ≡ false
 not_utf8 a b bs u c =

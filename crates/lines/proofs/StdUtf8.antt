@@ -1,5 +1,5 @@
 -- std's UTF-8, the bytes of some characters, is that of the RFC's rows: so `str::from_utf8` finds the longest
--- well-formed start.
+-- well-formed start, and `simdutf8::is_utf8` tests parts of it.
 use mathlib.Core.Path.{◌≡◌, refl, sym, ap, subst, ◌∙◌}
 use mathlib.Core.Logic.{◌⊎◌, ⊎_elim, inl, inr}
 use Prim.Native.Nat.{ℕ, zero, suc, ◌+◌, ◌-◌, ◌*◌, ◌/◌, ◌%◌, ◌≤◌}
@@ -8,6 +8,7 @@ use mathlib.Core.Bool.{true, false, ◌&&◌, cond}
 use mathlib.Core.Option.{Option, none, some}
 use mathlib.Core.List.{List, [], ◌∷◌}
 use lib.ListN.{length, take, drop}
+use lib.Seq.{take-add}
 use lib.Dec.{leb}
 use lib.Utf8.{scalar, scalars, encode, encodes, scalar_cases, low_scalar}
 use borrow.Author.Tests.{leb-true, le-leb, lt-leb, lt-ltb, le-ltb}
@@ -219,3 +220,12 @@ valid_len_of_std t = same_within (length t) t
 
 pub length_of_std : (t : Bytes) → IsUtf8 t → length t ≡ longest_start t
 length_of_std t u = sym (utf8_valid_len-IsUtf8 t u) ∙ valid_len_of_std t
+
+-- ---- a text of which a front is known to be well-formed
+
+-- a part from i to e lengthens it
+pub part_passed : (t : Bytes) (i e : ℕ) → i ≤ e → utf8 (take i t) ≡ true → IsUtf8 (take (e - i) (drop i t)) → utf8 (take e t) ≡ true
+part_passed t i e l u p =
+    let whole : i + (e - i) ≡ e = omega arith in
+    subst (λ (n : ℕ). utf8 (take n t) ≡ true) whole
+    (rw take-add (utf8_append (take i t) (take (e - i) (drop i t)) u ∙ utf8_of_std (take (e - i) (drop i t)) p))

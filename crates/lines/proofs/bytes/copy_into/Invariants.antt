@@ -1,5 +1,4 @@
 -- `copy_into`: the first i elements of the part stand in the buffer.
-use Prim.Native.Nat.{ℕ}
 use mathlib.Core.Path.{◌≡◌}
 use lib.Seq.{paste}
 use Rattle.lines.proofs.bytes.copy_into.Given as goal
