@@ -53,8 +53,8 @@
  * Stack
  *   A call needs at most HAVTSULEN_STACK_BYTES bytes of the stack that it is made on. The library does not check that
  *   they are there, but touches its stack page by page, so that a guard page below it ends the program. Measured
- *   (tests/stack): havtsulen_normal_text 112,104, havtsulen_read 93,544, havtsulen_write 17,320, havtsulen_split 6,552,
- *   every other call below 400; and some 3,200 more in the first call of a program that binds memcpy and memset lazily.
+ *   (tests/stack): havtsulen_normal_text 112,120, havtsulen_read 93,560, havtsulen_write 17,320, havtsulen_split 6,552,
+ *   every other call below 410; and some 3,200 more in the first call of a program that binds memcpy and memset lazily.
  */
 #ifndef HAVTSULEN_H
 #define HAVTSULEN_H

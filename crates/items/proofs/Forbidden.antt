@@ -1,5 +1,5 @@
 -- The first byte that a text to split may not have, as `position` finds it.
-use mathlib.Core.Path.{◌≡◌, refl, ◌∙◌}
+use mathlib.Core.Path.{◌≡◌, refl, sym, ◌∙◌}
 use Prim.Native.Nat.{ℕ, suc, ◌+◌, ◌≤◌, ◌<◌}
 use native.Mathlib.Omega.{arith}
 use mathlib.Core.Bool.{true, false}
@@ -11,7 +11,7 @@ use Rattle.std.specs.Prelude.{position, Some, None}
 use Rattle.std.specs.List.{position_or_len}
 use Rattle.std.proofs.lemmas.List.Recursion.{is_position_or_len}
 use Rattle.lines.specs.Bytes.{Bytes, any}
-use Rattle.lines.proofs.Bools.{by_cases, clash}
+use Rattle.lines.proofs.Bools.{by_cases, clash, impossible}
 use Rattle.items.specs.Split.{forbidden, first_forbidden}
 
 first_is : (t : Bytes) → first_forbidden t ≡ position_or_len forbidden t
@@ -48,3 +48,10 @@ none_forbidden t h =
     by_cases (ltb (position_or_len forbidden t) (length t))
     (λ e. let k : Some (position_or_len forbidden t) ≡ None = rw e at h in clash (cc k))
     (λ e. none_there t (omega (arith, n, ltb-false (position_or_len forbidden t) (length t) e)))
+
+pub no_position : (t : Bytes) → any forbidden t ≡ false → position forbidden t ≡ None
+no_position t h =
+    let n = first_is t in
+    by_cases (ltb (position_or_len forbidden t) (length t))
+    (λ e. impossible (sym h ∙ some_there t (omega (arith, n, ltb-true (position_or_len forbidden t) (length t) e))))
+    (λ e. rw e)

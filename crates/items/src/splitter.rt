@@ -1,5 +1,6 @@
 // The splitter: a text into items.
 ghost use Rattle.std.specs.Prelude.{◌≡◌, ◌+◌, ◌≤◌, length, position};
+ghost use Rattle.lines.specs.Bytes.{any};
 ghost use Rattle.lines.specs.Buffers.{put};
 ghost use Rattle.items.specs.Pieces.{pieces};
 ghost use Rattle.items.specs.Split.{forbidden, step, items_of};
@@ -42,10 +43,21 @@ fn is_forbidden(b: u8) -> bool
     b.is_ascii_control() && b != b'\t'
 }
 
+// Whether there is one. It does not stop at the first: so the compiler can take many bytes at a time.
+fn has_forbidden(text: &[u8]) -> bool
+    ensures { result ≡ any forbidden text.now }
+{
+    text.iter().fold(false, |found, &b| found | is_forbidden(b))
+}
+
 // The offset of the first such byte.
+#[tactic(auto, using(crate::proofs::Forbidden::no_position))]
 fn first_forbidden(text: &[u8]) -> Option<usize>
     ensures { result ≡ position forbidden text.now }
 {
+    if !has_forbidden(text) {
+        return None;
+    }
     text.iter().position(|b| is_forbidden(*b))
 }
 

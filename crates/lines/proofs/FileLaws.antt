@@ -1,7 +1,7 @@
 -- The check of a file: its size by its last byte, and what holds of a pass from character to character.
 -- The bytes after the first of a character are 80 or above, so only first bytes can be LF or a control byte.
 use mathlib.Core.Path.{◌≡◌, refl, sym, ap, subst, ◌∙◌}
-use Prim.Native.Nat.{ℕ, zero, suc, ◌+◌, ◌≤◌, ◌<◌, zero-le}
+use Prim.Native.Nat.{ℕ, zero, suc, ◌+◌, ◌-◌, ◌≤◌, ◌<◌, zero-le}
 use native.Mathlib.Omega.{arith}
 use mathlib.Core.Bool.{Bool, true, false, not, cond}
 use mathlib.Core.List.{[], ◌∷◌, ◌++◌}
@@ -256,20 +256,58 @@ none_control (b ∷ bs) h =
     (λ e. absurd (let k : suc (length bs) ≤ 0 = rw e at h in omega arith))
     (λ e. rw e (none_control bs (let k : suc (length bs) ≤ suc (first_control bs) = rw e at h in omega arith)))
 
-pub checked_control : (f : Bytes) (at : ℕ) → length f ≤ longest_start f → FirstOf control f (Some at) → checked_bytes f ≡ refused 4 (line_at at f)
+-- the answer by that offset
+pub checked_first : (f : Bytes) → length f ≤ longest_start f → first_control f < length f
+    → checked_bytes f ≡ refused 4 (line_at (first_control f) f)
 unfolding checked_bytes
-checked_control f at h o =
-    let e : first_control f ≡ at = first_control_is f (Some at) o in
-    rw (ends_behind f h, some_control f (omega (arith, e, o.0)), e)
+checked_first f h l = rw (ends_behind f h, some_control f l)
 
 pub checked_clean : (f : Bytes) → length f ≤ longest_start f → any control f ≡ false → checked_bytes f ≡ accepted tt
 unfolding checked_bytes
 checked_clean f h e = rw (ends_behind f h, e)
 
+pub checked_past : (f : Bytes) → length f ≤ longest_start f → length f ≤ first_control f → checked_bytes f ≡ accepted tt
+checked_past f h l = checked_clean f h (none_control f l)
+
+-- the same by what `position` finds
+pub checked_control : (f : Bytes) (at : ℕ) → length f ≤ longest_start f → FirstOf control f (Some at) → checked_bytes f ≡ refused 4 (line_at at f)
+checked_control f at h o =
+    let e : first_control f ≡ at = first_control_is f (Some at) o in
+    checked_first f h (omega (arith, e, o.0)) ∙ ap (λ n. refused 4 (line_at n f)) e
+
 pub checked_whole : (f : Bytes) → length f ≤ longest_start f → FirstOf control f None → checked_bytes f ≡ accepted tt
 checked_whole f h o =
     let e : first_control f ≡ length f = first_control_is f None o in
-    checked_clean f h (none_control f (omega (arith, e)))
+    checked_past f h (omega (arith, e))
+
+-- ---- a file of which a front is known to have no control byte
+
+no_more : (p : ℕ → Bool) (a b : Bytes) → any p a ≡ false → any p b ≡ false → any p (a ++ b) ≡ false
+unfolding any
+no_more p [] b h k = k
+no_more p (x ∷ a) b h k =
+    by_cases (p x) (λ e. impossible (sym (rw e at h))) (λ e. rw e (no_more p a b (rw e at h) k))
+
+first_behind : (a b : Bytes) → any control a ≡ false → first_control (a ++ b) ≡ length a + first_control b
+unfolding any first_control
+first_behind [] b h = omega arith
+first_behind (x ∷ a) b h =
+    by_cases (control x)
+    (λ e. impossible (sym (rw e at h)))
+    (λ e. let k = first_behind a b (rw e at h) in rw e (omega (arith, k)))
+
+pub first_from : (f : Bytes) (i : ℕ) → i ≤ length f → any control (take i f) ≡ false
+    → first_control f ≡ i + first_control (drop i f)
+first_from f i l h =
+    ap first_control (sym (take-append-drop i f)) ∙ first_behind (take i f) (drop i f) h
+    ∙ ap (λ n. n + first_control (drop i f)) (length-take-le i f l)
+
+-- a part from i to e lengthens it
+pub part_clean : (f : Bytes) (i e : ℕ) → i ≤ e → any control (take i f) ≡ false → any control (take (e - i) (drop i f)) ≡ false
+    → any control (take e f) ≡ false
+part_clean f i e l h p =
+    let whole : i + (e - i) ≡ e = omega arith in
+    subst (λ (n : ℕ). any control (take n f) ≡ false) whole (rw take-add (no_more control (take i f) (take (e - i) (drop i f)) h p))
 
 -- ---- accepted exactly where none of the three is met
 

@@ -1,11 +1,14 @@
 // The check of a whole file, before its lines are read.
-ghost use Rattle.std.specs.Prelude.{◌≡◌, ◌≤◌, length, ltb};
+ghost use Rattle.std.specs.Prelude.{◌≡◌, ◌≤◌, length, take, ltb, false};
 ghost use Rattle.lines.specs.Bytes.{control, any};
-ghost use Rattle.lines.specs.Files.{size, line_at, checked_bytes, checked_file, check_means};
+ghost use Rattle.lines.specs.Files.{size, line_at, first_control, checked_bytes, checked_file, check_means};
 
 use crate::bytes::is_control;
 use crate::error::Error;
 use crate::utf8::well_formed_length;
+
+// The most bytes that are tested at once for a control byte.
+const PART: usize = 1024;
 
 // More than 65,535 bytes, where a file that is not empty and does not end in LF counts one more.
 #[tactic(auto, using(crate::proofs::FileLaws::size_below, crate::proofs::FileLaws::size_over, crate::proofs::FileLaws::size_at))]
@@ -36,6 +39,34 @@ fn has_control(text: &[u8]) -> bool
     text.iter().fold(false, |found, &b| found | is_control(b))
 }
 
+// How many bytes at the start lie in parts that have none.
+fn clean_parts(file: &[u8]) -> usize
+    ensures inside { result ≤ length file.now }
+    ensures clean { any control (take result file.now) ≡ false }
+{
+    let mut at = 0;
+    while at < file.len() {
+        let end = at + PART.min(file.len() - at);
+        if has_control(&file[at..end]) {
+            return at;
+        }
+        at = end;
+    }
+    at
+}
+
+// The offset of the first one, or the length.
+fn first_control(file: &[u8]) -> usize
+    ensures { result ≡ first_control file.now }
+{
+    let at = clean_parts(file);
+    let behind = &file[at..];
+    at + behind
+        .iter()
+        .position(|b| is_control(*b))
+        .unwrap_or(behind.len())
+}
+
 // The bytes of a file: first UTF-8, then control bytes, each over the whole file.
 fn check_bytes(file: &[u8]) -> Result<(), Error>
     ensures { check_means result ≡ checked_bytes file.now }
@@ -44,13 +75,11 @@ fn check_bytes(file: &[u8]) -> Result<(), Error>
     if end < file.len() {
         return Err(Error::NotUtf8(line_at(end, file)));
     }
-    if !has_control(file) {
-        return Ok(());
+    let first = first_control(file);
+    if first < file.len() {
+        return Err(Error::ControlByte(line_at(first, file)));
     }
-    match file.iter().position(|b| is_control(*b)) {
-        Some(at) => Err(Error::ControlByte(line_at(at, file))),
-        None => Ok(()),
-    }
+    Ok(())
 }
 
 // What is judged of a whole file: its size, UTF-8, control bytes.
