@@ -43,7 +43,7 @@ fn is_forbidden(b: u8) -> bool
     b.is_ascii_control() && b != b'\t'
 }
 
-// Whether there is one. It does not stop at the first: so the compiler can take many bytes at a time.
+// Whether a text has such a byte. It does not stop at the first one: so the compiler can take many bytes at a time.
 fn has_forbidden(text: &[u8]) -> bool
     ensures { result ≡ any forbidden text.now }
 {

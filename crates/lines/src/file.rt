@@ -32,14 +32,14 @@ fn line_at(offset: usize, file: &[u8]) -> usize
     1 + file[..offset].iter().filter(|b| **b == b'\n').count()
 }
 
-// Whether a control byte is among them. It does not stop at the first one: so the compiler can take many bytes at a time.
+// Whether a text has a control byte. It does not stop at the first one: so the compiler can take many bytes at a time.
 fn has_control(text: &[u8]) -> bool
     ensures { result ≡ any control text.now }
 {
     text.iter().fold(false, |found, &b| found | is_control(b))
 }
 
-// How many bytes at the start lie in parts that have none.
+// How many bytes at the start of a file lie in parts without a control byte.
 fn clean_parts(file: &[u8]) -> usize
     ensures inside { result ≤ length file.now }
     ensures clean { any control (take result file.now) ≡ false }
@@ -55,16 +55,15 @@ fn clean_parts(file: &[u8]) -> usize
     at
 }
 
-// The offset of the first one, or the length.
+// The offset of the first control byte, or the length where there is none.
 fn first_control(file: &[u8]) -> usize
     ensures { result ≡ first_control file.now }
 {
     let at = clean_parts(file);
-    let behind = &file[at..];
-    at + behind
-        .iter()
-        .position(|b| is_control(*b))
-        .unwrap_or(behind.len())
+    match file[at..].iter().position(|b| is_control(*b)) {
+        Some(i) => at + i,
+        None => file.len(),
+    }
 }
 
 // The bytes of a file: first UTF-8, then control bytes, each over the whole file.
