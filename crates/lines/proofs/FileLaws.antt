@@ -1,7 +1,7 @@
 -- The check of a file: its size by its last byte, and what holds of a pass from character to character.
 -- The bytes after the first of a character are 80 or above, so only first bytes can be LF or a control byte.
 use mathlib.Core.Path.{◌≡◌, refl, sym, ap, subst, ◌∙◌}
-use Prim.Native.Nat.{ℕ, zero, suc, ◌+◌, ◌-◌, ◌≤◌, ◌<◌, zero-le}
+use Prim.Native.Nat.{ℕ, zero, suc, ◌+◌, ◌≤◌, ◌<◌, zero-le}
 use native.Mathlib.Omega.{arith}
 use mathlib.Core.Bool.{Bool, true, false, not, cond}
 use mathlib.Core.List.{[], ◌∷◌, ◌++◌}
@@ -17,6 +17,7 @@ use Rattle.lines.specs.Answers.{accepted, refused}
 use Rattle.lines.specs.Files.{checked_file, unterminated, size, line_at, first_control, checked_bytes}
 use Rattle.lines.proofs.Bools.{by_cases, clash, any-all, and_left, and_right, all_append, all_imp, not_true, impossible}
 use Rattle.lines.proofs.LineFeeds.{line_feeds_append, line_feeds-length}
+use Rattle.lines.proofs.Slices.{front_and_part}
 use Rattle.lines.proofs.Utf8Laws.{high_byte, utf8_append}
 use Rattle.lines.proofs.Characters.{Character, character, ascii_at, long_at}
 use Rattle.lines.proofs.LongestStart.{not_utf8, start_ends, longest_start-all, start_legal}
@@ -302,12 +303,9 @@ first_from f i l h =
     ap first_control (sym (take-append-drop i f)) ∙ first_behind (take i f) (drop i f) h
     ∙ ap (λ n. n + first_control (drop i f)) (length-take-le i f l)
 
--- a part from i to e lengthens it
-pub part_clean : (f : Bytes) (i e : ℕ) → i ≤ e → any control (take i f) ≡ false → any control (take (e - i) (drop i f)) ≡ false
+pub part_clean : (f : Bytes) (i m e : ℕ) → any control (take i f) ≡ false → any control (take m (drop i f)) ≡ false → i + m ≡ e
     → any control (take e f) ≡ false
-part_clean f i e l h p =
-    let whole : i + (e - i) ≡ e = omega arith in
-    subst (λ (n : ℕ). any control (take n f) ≡ false) whole (rw take-add (no_more control (take i f) (take (e - i) (drop i f)) h p))
+part_clean f i m e h p k = ap (any control) (front_and_part i m e f k) ∙ no_more control (take i f) (take m (drop i f)) h p
 
 -- ---- accepted exactly where none of the three is met
 

@@ -26,13 +26,21 @@ unfolding start_within
 start_yes f zero e = refl
 start_yes f (suc n) e = rw e
 
-start_at : (n : ℕ) (a : Bytes) (b : ℕ) (bs : Bytes) → utf8 a ≡ true → char_length (b ∷ bs) ≡ 0
-    → start_within (length a + n) (a ++ b ∷ bs) ≡ length a
-start_at zero a b bs u c = rw add-zero (start_yes (a ++ b ∷ bs) (length a) (rw take-append_seam u))
-start_at (suc n) a b bs u c =
-    let e : utf8 (take (length a + suc n) (a ++ b ∷ bs)) ≡ false =
-    ap utf8 (take-append-add a (b ∷ bs) (suc n)) ∙ utf8_append a (take (suc n) (b ∷ bs)) u ∙ no_start n b bs c in
-    rw add-suc (start_no (a ++ b ∷ bs) (length a + n) (rw add-suc at e) ∙ start_at n a b bs u c)
+-- it goes on behind a well-formed front
+start_behind : (n : ℕ) (a r : Bytes) → utf8 a ≡ true → start_within (length a + n) (a ++ r) ≡ length a + start_within n r
+unfolding start_within
+start_behind zero a r u = rw add-zero (start_yes (a ++ r) (length a) (rw take-append_seam u))
+start_behind (suc n) a r u =
+    let e : utf8 (take (length a + suc n) (a ++ r)) ≡ utf8 (take (suc n) r) =
+    ap utf8 (take-append-add a r (suc n)) ∙ utf8_append a (take (suc n) r) u in
+    by_cases (utf8 (take (suc n) r))
+    (λ v. start_yes (a ++ r) (length a + suc n) (e ∙ v) ∙ ap (λ k. length a + k) (sym (start_yes r (suc n) v)))
+    (λ v. rw add-suc (start_no (a ++ r) (length a + n) (rw add-suc at e ∙ v) ∙ start_behind n a r u)
+    ∙ ap (λ k. length a + k) (sym (start_no r n v)))
+
+longest_start_behind : (a r : Bytes) → utf8 a ≡ true → longest_start (a ++ r) ≡ length a + longest_start r
+unfolding longest_start
+longest_start_behind a r u = rw length-append (start_behind (length r) a r u)
 
 start_legal_within : (n : ℕ) (f : Bytes) → utf8 (take (start_within n f) f) ≡ true
 unfolding start_within utf8 well
@@ -52,26 +60,16 @@ unfolding longest_start
 longest_start-all f u = start_yes f (length f) (rw take-length u)
 
 -- it ends where no character stands
+start_none : (n : ℕ) (b : ℕ) (bs : Bytes) → char_length (b ∷ bs) ≡ 0 → start_within n (b ∷ bs) ≡ 0
+unfolding start_within
+start_none zero b bs c = refl
+start_none (suc n) b bs c = start_no (b ∷ bs) n (no_start n b bs c) ∙ start_none n b bs c
+
 pub longest_start_at : (a r : Bytes) → utf8 a ≡ true → char_length r ≡ 0 → longest_start (a ++ r) ≡ length a
 unfolding longest_start
 longest_start_at a [] u c = rw append-nil (longest_start-all a u)
-longest_start_at a (b ∷ bs) u c = rw length-append (start_at (length (b ∷ bs)) a b bs u c)
-
--- it goes on behind a well-formed front
-start_behind : (n : ℕ) (a r : Bytes) → utf8 a ≡ true → start_within (length a + n) (a ++ r) ≡ length a + start_within n r
-unfolding start_within
-start_behind zero a r u = rw add-zero (start_yes (a ++ r) (length a) (rw take-append_seam u))
-start_behind (suc n) a r u =
-    let e : utf8 (take (length a + suc n) (a ++ r)) ≡ utf8 (take (suc n) r) =
-    ap utf8 (take-append-add a r (suc n)) ∙ utf8_append a (take (suc n) r) u in
-    by_cases (utf8 (take (suc n) r))
-    (λ v. start_yes (a ++ r) (length a + suc n) (e ∙ v) ∙ ap (λ k. length a + k) (sym (start_yes r (suc n) v)))
-    (λ v. rw add-suc (start_no (a ++ r) (length a + n) (rw add-suc at e ∙ v) ∙ start_behind n a r u)
-    ∙ ap (λ k. length a + k) (sym (start_no r n v)))
-
-pub longest_start_behind : (a r : Bytes) → utf8 a ≡ true → longest_start (a ++ r) ≡ length a + longest_start r
-unfolding longest_start
-longest_start_behind a r u = rw length-append (start_behind (length r) a r u)
+longest_start_at a (b ∷ bs) u c =
+    longest_start_behind a (b ∷ bs) u ∙ ap (λ n. length a + n) (start_none (length (b ∷ bs)) b bs c) ∙ add-zero (length a)
 
 pub longest_start_from : (t : Bytes) (i : ℕ) → i ≤ length t → utf8 (take i t) ≡ true
     → longest_start t ≡ i + longest_start (drop i t)

@@ -8,7 +8,6 @@ use mathlib.Core.Bool.{true, false, ◌&&◌, cond}
 use mathlib.Core.Option.{Option, none, some}
 use mathlib.Core.List.{List, [], ◌∷◌}
 use lib.ListN.{length, take, drop}
-use lib.Seq.{take-add}
 use lib.Dec.{leb}
 use lib.Utf8.{scalar, scalars, encode, encodes, scalar_cases, low_scalar}
 use borrow.Author.Tests.{leb-true, le-leb, lt-leb, lt-ltb, le-ltb}
@@ -18,6 +17,7 @@ use Rattle.std.proofs.lemmas.Str.{IsUtf8-append, IsUtf8-encode, IsUtf8-from_is_u
 use Rattle.lines.specs.Bytes.{Bytes, between}
 use Rattle.lines.specs.Utf8.{Range, range, tail, row, rows, headed, heads, after, well, utf8, start_within, longest_start, encoded}
 use Rattle.lines.proofs.Bools.{by_cases, and_left, and_right, and_false, impossible, is_false}
+use Rattle.lines.proofs.Slices.{front_and_part}
 use Rattle.lines.proofs.Utf8Laws.{utf8_append}
 use Rattle.lines.proofs.Encoded.{split, encoded-utf8}
 
@@ -223,9 +223,6 @@ length_of_std t u = sym (utf8_valid_len-IsUtf8 t u) ∙ valid_len_of_std t
 
 -- ---- a text of which a front is known to be well-formed
 
--- a part from i to e lengthens it
-pub part_passed : (t : Bytes) (i e : ℕ) → i ≤ e → utf8 (take i t) ≡ true → IsUtf8 (take (e - i) (drop i t)) → utf8 (take e t) ≡ true
-part_passed t i e l u p =
-    let whole : i + (e - i) ≡ e = omega arith in
-    subst (λ (n : ℕ). utf8 (take n t) ≡ true) whole
-    (rw take-add (utf8_append (take i t) (take (e - i) (drop i t)) u ∙ utf8_of_std (take (e - i) (drop i t)) p))
+pub part_passed : (t : Bytes) (i m e : ℕ) → utf8 (take i t) ≡ true → IsUtf8 (take m (drop i t)) → i + m ≡ e → utf8 (take e t) ≡ true
+part_passed t i m e u p h =
+    ap utf8 (front_and_part i m e t h) ∙ utf8_append (take i t) (take m (drop i t)) u ∙ utf8_of_std (take m (drop i t)) p

@@ -59,7 +59,7 @@ fn length_by_std(text: &[u8]) -> usize
 }
 
 // The length of the longest well-formed start: the parts, and what std finds behind them.
-#[tactic(auto, using(crate::proofs::LongestStart::longest_start_from, std::proofs::lemmas::List::take_rest))]
+#[tactic(auto, using(crate::proofs::LongestStart::longest_start_from, crate::proofs::Slices::part_from))]
 pub fn well_formed_length(text: &[u8]) -> usize
     ensures { result ≡ longest_start text.now }
 {

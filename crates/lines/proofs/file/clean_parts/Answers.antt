@@ -15,5 +15,5 @@ loop-at-preserved c =
     let f = c.args.file.now in
     let i = c.loop-at.at in (
       omega (arith, c.min.ensures),
-      part_clean f i (i + c.min.result) (omega arith) c.loop-at.invariant.1 (sym c.has_control.ensures ∙ c.if-has_control.false),
+      part_clean f i _ (i + c.min.result) c.loop-at.invariant.1 (sym c.has_control.ensures ∙ c.if-has_control.false) (omega arith),
     )

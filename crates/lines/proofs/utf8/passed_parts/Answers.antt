@@ -16,5 +16,5 @@ loop-at-preserved c =
     let t = c.args.text.now in
     let i = c.loop-at.at in (
       omega (arith, c.part_length.ensures.inside),
-      part_passed t i (i + c.part_length.result) (omega arith) c.loop-at.invariant.1 (c.is_utf8.ensures.0 (search rules)),
+      part_passed t i _ (i + c.part_length.result) c.loop-at.invariant.1 (c.is_utf8.ensures.0 (search rules)) (omega arith),
     )
